@@ -4,5 +4,6 @@ pub mod Netlist
 pub mod Refusals
 pub mod Rules
 pub mod Sound
+pub mod Flags
 pub mod Pieces
 pub mod Buffers

@@ -1,7 +1,7 @@
 -- The number, the place and the cause of each refusal. Assumes nothing.
 use Prim.Native.Nat.{ℕ}
 use Rattle.netlist.specs.declared.refusals.Argument.{Argument}
-use Rattle.netlist.specs.declared.refusals.Argument.the-variants.{Domain as DomainNumber, Flow, Across, First, Second, Node, Term}
+use Rattle.netlist.specs.declared.refusals.Argument.the-variants.{Domain as DomainNumber, Flow, Across, First, Second, Node, Term as TermNumber}
 use Rattle.netlist.specs.declared.refusals.Refusal.{Refusal}
 use Rattle.netlist.specs.declared.refusals.Refusal.the-variants.{Limit, NoNode, NoVariable, Domain, Taken, Coefficient, TermCount, Order, ShortBuffer, NoEquation}
 use Rattle.netlist.specs.declared.refusals.Table.{Table}
@@ -35,7 +35,7 @@ argument-number Across = 2
 argument-number First = 3
 argument-number Second = 4
 argument-number Node = 3
-argument-number (Term term) = term
+argument-number (TermNumber term) = term
 
 -- the argument or term at fault, for a limit the table, else 0
 abbrev pub place : Refusal → ℕ

@@ -10,13 +10,14 @@ use Rattle.std.specs.declared.option.Option.{Option}
 use Rattle.std.specs.declared.option.Option.the-variants.{Some, None}
 use Rattle.std.specs.declared.result.Result.{Result}
 use Rattle.std.specs.declared.result.Result.the-variants.{Ok, Err}
-use Rattle.netlist.specs.declared.refusals.Argument.the-variants.{Domain as DomainNumber, Flow, Across, First, Second, Node, Term}
+use Rattle.netlist.specs.declared.refusals.Argument.the-variants.{Domain as DomainNumber, Flow, Across, First, Second, Node, Term as TermNumber}
 use Rattle.netlist.specs.declared.refusals.Refusal.{Refusal}
 use Rattle.netlist.specs.declared.refusals.Refusal.the-variants.{Limit, NoNode, NoVariable, Domain, Taken, Coefficient, TermCount, Order}
 use Rattle.netlist.specs.declared.refusals.Table.the-variants.{Nodes, Variables, Rows, Laws, Terms}
 use Rattle.netlist.specs.declared.rows.Row.{Row}
 use Rattle.netlist.specs.declared.rows.Row.the-variants.{Branch, Earth}
 use Rattle.netlist.specs.declared.terms.RawTerm.{RawTerm}
+use Rattle.netlist.specs.declared.terms.Term.{Term}
 use Rattle.netlist.specs.Domains.{no-domain}
 use Rattle.netlist.specs.Netlist.{Netlist, term-count, with-nodes, with-variables, with-rows, with-laws}
 use Rattle.netlist.specs.Rows.{uses}
@@ -102,12 +103,12 @@ taken-by rows v = ltb 0 (uses rows v)
 abbrev pub table-row : Netlist → Row → Tests
 table-row b row = row-tests (b .domains) (b .variables) (taken-by (b .rows)) row
 
-abbrev pub room-row : Netlist → Tests
-room-row b = (leb 1500 (length (b .rows)), Limit Rows) ∷ []
+abbrev pub room-row : List Row → Tests
+room-row rows = (leb 1500 (length rows), Limit Rows) ∷ []
 
 -- branch(flow, across, first, second) and earth(flow, across, node)
 abbrev pub judge-row : Netlist → Row → Option Refusal
-judge-row b row = first-of (table-row b row ++ room-row b)
+judge-row b row = first-of (table-row b row ++ room-row (b .rows))
 
 abbrev pub answer-row : Netlist → Row → Result ℕ Refusal
 answer-row b row = answer (judge-row b row) (length (b .rows))
@@ -127,7 +128,7 @@ abbrev pub table-term : ℕ → ℕ → RawTerm → Tests
 table-term n i t =
     (no-coefficient (t .coefficient), Coefficient i)
     ∷ (ltb 1 (t .order), Order i)
-    ∷ (leb n (t .variable), NoVariable (Term i))
+    ∷ (leb n (t .variable), NoVariable (TermNumber i))
     ∷ []
 
 -- the terms in turn, the first of them being term i
@@ -138,15 +139,15 @@ table-terms n i (t ∷ ts) = table-term n i t ++ table-terms n (i + 1) ts
 abbrev pub table-law : ℕ → List RawTerm → Tests
 table-law n ts = (no-term-count (length ts), TermCount) ∷ table-terms n 1 ts
 
-abbrev pub room-law : Netlist → ℕ → Tests
-room-law b count =
-    (leb 1500 (length (b .laws)), Limit Laws)
-    ∷ (ltb 6000 (term-count (b .laws) + count), Limit Terms)
+abbrev pub room-law : List (List Term) → ℕ → Tests
+room-law laws count =
+    (leb 1500 (length laws), Limit Laws)
+    ∷ (ltb 6000 (term-count laws + count), Limit Terms)
     ∷ []
 
 -- law(terms)
 abbrev pub judge-law : Netlist → List RawTerm → Option Refusal
-judge-law b ts = first-of (table-law (b .variables) ts ++ room-law b (length ts))
+judge-law b ts = first-of (table-law (b .variables) ts ++ room-law (b .laws) (length ts))
 
 abbrev pub answer-law : Netlist → List RawTerm → Result ℕ Refusal
 answer-law b ts = answer (judge-law b ts) (length (b .laws))
