@@ -48,6 +48,9 @@ pub enum Refusal {
     NoEquation,
 }
 
+// No refusal here stems from another one.
+const NO_CAUSE: u32 = 0;
+
 impl Table {
     pub fn number(self) -> usize
         ensures { λ r. ⌜ r ≡ table-number self ⌝ }
@@ -116,6 +119,6 @@ impl Refusal {
     pub fn cause(self) -> u32
         ensures { λ r. ⌜ r ≡ cause self ⌝ }
     {
-        0
+        NO_CAUSE
     }
 }

@@ -16,6 +16,7 @@ pub struct Sheet {
 }
 
 // The laws of a sheet: their terms, one law after another, and how many terms each has.
+#[derive(Clone, Copy)]
 pub struct LawView<'a> {
     pub lengths: &'a [usize],
     pub terms: &'a [Term],

@@ -1,0 +1,4 @@
+pub mod Equations
+pub mod Listing
+pub mod Placed
+pub mod Writing
