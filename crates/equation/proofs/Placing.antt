@@ -7,12 +7,9 @@ use Prim.Native.Nat.{ℕ, zero, suc, _+_, _≤_, _<_}
 use native.Mathlib.Omega.{arith}
 use lib.Dec.{eqb, ltb}
 use lib.ListN.{length, getD}
-use Rattle.std.specs.Iters.{counting}
 use Rattle.std.specs.Vec.{listOf}
 use Rattle.std.specs.declared.option.Option.{Option}
 use Rattle.std.specs.declared.option.Option.the-variants.{Some, None}
-use Rattle.std.proofs.shelf.Counted.{length-map-counting, getD-map-counting}
-use Rattle.std.proofs.shelf.Lists.{getD-append-add, getD-append-left}
 use Rattle.std.proofs.shelf.Tests.{and-parts, ltb-true, eq-eqb, ne-eqb, cases-eq}
 use Rattle.netlist.specs.declared.rows.Row.{Row}
 use Rattle.netlist.specs.declared.rows.Row.the-variants.{Branch, Earth}
@@ -21,20 +18,14 @@ use Rattle.netlist.specs.Netlist.{Netlist}
 use Rattle.netlist.specs.Rows.{bit, hits, uses, flow-of, across-of}
 use Rattle.netlist.specs.Sound.{Sound, joins}
 use Rattle.netlist.proofs.Every.{every-at}
-use Rattle.equation.specs.Equations.{plus, minus, term-at, node-sum, node-sums, row-equation, equations-of}
+use Rattle.equation.specs.Equations.{plus, minus, term-at, node-sum}
 use Rattle.equation.specs.Placed.{node-equation, naming, Absent, Placed-row, Placed}
 use Rattle.equation.proofs.Counting.{equations-are}
+use Rattle.equation.proofs.Finding.{node-at}
 
 -- the equation of a node is the sum of its flows
 node-is : (b : Netlist) (n : ℕ) → n < length (b .domains) → node-equation b n ≡ node-sum (b .rows) n
-node-is b n h =
-    let nodes = length (b .domains) in
-    let sums = node-sums (b .rows) nodes in
-    let own = map (row-equation (b .variables)) (b .rows) in
-    let count = length-map-counting (node-sum (b .rows)) 0 nodes in
-    getD-append-add (b .laws) (sums ++ own) n []
-    ∙ getD-append-left sums own [] n (omega arith)
-    ∙ getD-map-counting (node-sum (b .rows)) 0 nodes n n [] h (omega arith)
+node-is b n h = node-at (b .laws) (b .rows) (length (b .domains)) (b .variables) n h
 
 -- the terms that name a variable, in two lists
 either : (p : Bool) (t : Term) (xs ys : List Term) → cond p (t ∷ (xs ++ ys)) (xs ++ ys) ≡ cond p (t ∷ xs) xs ++ ys

@@ -1,4 +1,5 @@
 pub mod Equations
 pub mod Listing
+pub mod Printing
 pub mod Placed
 pub mod Writing

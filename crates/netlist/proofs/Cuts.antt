@@ -4,7 +4,7 @@ use mathlib.Core.List.{List, [], _∷_, _++_}
 use Prim.Native.Nat.{ℕ, zero, suc, _+_, _-_, _≤_, _<_}
 use native.Mathlib.Omega.{arith}
 use lib.ListN.{length, take, drop, getD}
-use Rattle.std.proofs.shelf.Lists.{length-take-le, length-drop, take-append-le, drop-append-le, take-all, nil-from-length, drop-drop, at-drop-more, take-append-drop, length-append}
+use Rattle.std.proofs.shelf.Lists.{length-take-le, length-drop, take-append-le, drop-append-le, take-all, nil-from-length, drop-drop, at-drop-more, take-append-drop, length-append, take-more}
 use Rattle.netlist.specs.Netlist.{term-count}
 use Rattle.netlist.specs.Pieces.{total, pieces, flat}
 
@@ -75,3 +75,17 @@ piece-at (n ∷ ns) ts (suc i) h l =
       p .0 ∙ ap (take (getD ns i 0)) (drop-drop (length before) n ts ∙ ap (λ (k : ℕ). drop k ts) long),
       omega (arith, p .1),
     )
+
+-- a piece by the lengths before it
+pub total-next : (ns : List ℕ) (i : ℕ) → i < length ns → total (take (i + 1) ns) ≡ total (take i ns) + getD ns i 0
+total-next ns i h = ap total (take-more ns i 0 h) ∙ total-push (take i ns) (getD ns i 0)
+
+pub total-front : (ns : List ℕ) (k : ℕ) → total (take k ns) ≤ total ns
+total-front ns zero = omega arith
+total-front [] (suc k) = omega arith
+total-front (n ∷ ns) (suc k) = omega (arith, total-front ns k)
+
+pub piece-from : {X : Type 0} (ns : List ℕ) (ts : List X) (k : ℕ) → k < length ns → getD (pieces ns ts) k [] ≡ take (getD ns k 0) (drop (total (take k ns)) ts)
+piece-from [] ts k l = absurd (omega arith)
+piece-from (n ∷ ns) ts zero l = refl
+piece-from (n ∷ ns) ts (suc k) l = piece-from ns (drop n ts) k (omega arith) ∙ ap (take (getD ns k 0)) (drop-drop (total (take k ns)) n ts)

@@ -1,0 +1,6 @@
+mod Digits
+mod Joins
+mod Printed
+mod Putting
+mod Rests
+mod Spelled
