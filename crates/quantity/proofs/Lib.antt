@@ -1,0 +1,5 @@
+pub mod Groups
+pub mod Multiplying
+pub mod Mapping
+pub mod Adding
+pub mod Images

@@ -1,0 +1,9 @@
+pub mod Group
+pub mod Derived
+pub mod Totals
+pub mod Maps
+pub mod Integers
+pub mod Residues
+pub mod Pairs
+pub mod Wholes
+pub mod Phasors
