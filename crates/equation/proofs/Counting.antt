@@ -21,7 +21,7 @@ use Rattle.equation.specs.Equations.{node-sum, node-sums, row-equation, listed
 use Rattle.equation.specs.Listing.{listing-of, judge-equations}
 use Rattle.equation.specs.Writing.{row-sizes}
 use Rattle.equation.proofs.Sizing.{sizes-are}
-use Rattle.equation.proofs.Summing.{joined-append}
+use Rattle.netlist.proofs.Joined.{joined-append}
 
 pub length-flat : {X : Type 0} (xss : List (List X)) → length (flat xss) ≡ term-count xss
 length-flat [] = refl

@@ -12,7 +12,7 @@ use Rattle.netlist.specs.Pieces.{flat}
 use Rattle.netlist.proofs.Buffers.{written-none, written-push, written-written}
 use Rattle.equation.specs.Listing.{spans-from}
 use Rattle.equation.specs.Writing.{Put}
-use Rattle.equation.proofs.Summing.{joined-append, joined-take-le, joined-next}
+use Rattle.netlist.proofs.Joined.{joined-append, joined-take-le, joined-next}
 
 pub length-spans : (a : ℕ) (es : List (List Term)) → length (spans-from a es) ≡ length es
 length-spans a [] = refl

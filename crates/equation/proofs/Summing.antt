@@ -1,30 +1,17 @@
--- The sum at a node, row after row, and the equations, one after another. Assumes nothing.
+-- The sum at a node, row after row. Assumes nothing.
 use mathlib.Core.Path.{_≡_, refl, sym, ap, _∙_}
 use mathlib.Core.List.{List, [], _∷_, _++_}
 use Prim.Native.Nat.{ℕ, _+_, _≤_, _<_}
 use native.Mathlib.Omega.{arith}
 use lib.ListN.{length, take, drop, getD, set}
-use Rattle.std.specs.Joined.{joined}
 use Rattle.std.specs.Vec.{listOf}
 use Rattle.std.specs.declared.option.Option.{Option}
 use Rattle.std.specs.declared.option.Option.the-variants.{Some, None}
-use Rattle.std.proofs.shelf.Lists.{append-nil, append-assoc, length-append, take-append-drop, take-more, joined-more}
+use Rattle.std.proofs.shelf.Lists.{append-nil, length-append}
 use Rattle.netlist.specs.declared.rows.Row.{Row}
 use Rattle.netlist.specs.declared.terms.Term.{Term}
+use Rattle.netlist.proofs.Joined.{joined-take-le, joined-next}
 use Rattle.equation.specs.Equations.{term-at, node-sum}
-
-pub joined-append : {X A : Type 0} (f : X → List A) (xs ys : List X) → joined f (xs ++ ys) ≡ joined f xs ++ joined f ys
-joined-append f [] ys = refl
-joined-append f (x ∷ xs) ys = ap (λ zs. f x ++ zs) (joined-append f xs ys) ∙ sym (append-assoc (f x) (joined f xs) (joined f ys))
-
--- a front of a list joins to no more than the list
-pub joined-take-le : {X A : Type 0} (f : X → List A) (k : ℕ) (xs : List X) → length (joined f (take k xs)) ≤ length (joined f xs)
-joined-take-le f k xs =
-    let whole = ap (joined f) (sym (take-append-drop k xs)) ∙ joined-append f (take k xs) (drop k xs) in
-    omega (arith, ap length whole, length-append (joined f (take k xs)) (joined f (drop k xs)))
-
-pub joined-next : {X A : Type 0} (f : X → List A) (xs : List X) (i : ℕ) (d : X) → i < length xs → joined f (take (i + 1) xs) ≡ joined f (take i xs) ++ f (getD xs i d)
-joined-next f xs i d h = ap (joined f) (take-more xs i d h) ∙ sym (joined-more f [] (take i xs) (getD xs i d))
 
 -- a row that adds a term, or none
 module _ (rows : List Row) (n i : ℕ) (d : Row) (within : i < length rows) where

@@ -4,7 +4,7 @@ use mathlib.Core.List.{List, [], _∷_, _++_}
 use Prim.Native.Nat.{ℕ, _+_, _≤_, _<_}
 use native.Mathlib.Omega.{arith}
 use lib.ListN.{length, take, drop, getD, set}
-use Rattle.std.proofs.shelf.Lists.{append-nil, append-assoc, length-append, length-take-le, length-drop, take-append-drop, drop-more, drop-drop, set-at, take-at, drop-at, length-push}
+use Rattle.std.proofs.shelf.Lists.{append-nil, append-assoc, length-append, length-take-le, length-drop, take-append-drop, drop-more, drop-drop, set-at, take-at, drop-at, length-push, take-more}
 use Rattle.netlist.specs.Buffers.{written, over}
 
 module _ {X : Type 0} where
@@ -32,6 +32,19 @@ module _ {X : Type 0} where
       ∙ set-at (take a old ++ new) (getD old n x) (drop (n + 1) old) x n (front-length old new a (omega arith))
       ∙ sym (append-assoc (take a old ++ new) (x ∷ []) (drop (n + 1) old))
       ∙ (λ i. append-assoc (take a old) new (x ∷ []) i ++ drop (last i) old)
+
+  -- one element before a piece
+  pub written-front : (old new : List X) (a : ℕ) (x : X) → a < length old → set (written old (a + 1) new) a x ≡ written old a (x ∷ new)
+  written-front old new a x h =
+      let back = drop (a + 1 + length new) old in
+      let front = take a old in
+      let y = getD old a x in
+      let last : a + 1 + length new ≡ a + length (x ∷ new) = omega arith in
+      ap (λ (f : List X). set ((f ++ new) ++ back) a x) (take-more old a x h)
+      ∙ ap (λ (l : List X). set l a x) (append-assoc (front ++ y ∷ []) new back ∙ append-assoc front (y ∷ []) (new ++ back))
+      ∙ set-at front y (new ++ back) x a (length-take-le a old (omega arith))
+      ∙ sym (append-assoc front (x ∷ new) back)
+      ∙ ap (λ (n : ℕ). (front ++ x ∷ new) ++ drop n old) last
 
   -- a second piece behind the first
   pub written-written : (old xs ys : List X) (a : ℕ) → a + length xs + length ys ≤ length old → written (written old a xs) (a + length xs) ys ≡ written old a (xs ++ ys)

@@ -89,7 +89,7 @@ fn draw_laws(draft: &mut Draft) -> Result<(), Refusal> {
 }
 
 // Draws the hoist on an empty draft.
-pub fn draw(draft: &mut Draft) -> Result<(), Refusal> {
+pub(crate) fn draw(draft: &mut Draft) -> Result<(), Refusal> {
     for domain in DOMAINS {
         draft.node(domain)?;
     }

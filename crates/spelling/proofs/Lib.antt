@@ -1,5 +1,4 @@
 mod Digits
-mod Joins
 mod Printed
 mod Putting
 mod Rests

@@ -3,10 +3,10 @@ use mathlib.Core.Path.{_≡_, sym, ap, subst, _∙_}
 use mathlib.Core.List.{List, [], _∷_, _++_}
 use Prim.Native.Nat.{ℕ, _+_, _≤_, _<_}
 use native.Mathlib.Omega.{arith}
-use lib.ListN.{length, take, drop, getD, set}
-use Rattle.std.proofs.shelf.Lists.{append-assoc, length-append, length-take-le, take-more, set-at}
+use lib.ListN.{length, set}
+use Rattle.std.proofs.shelf.Lists.{length-append}
 use Rattle.netlist.specs.Buffers.{written}
-use Rattle.netlist.proofs.Buffers.{written-none, written-push, written-written}
+use Rattle.netlist.proofs.Buffers.{written-none, written-push, written-front, written-written}
 use Rattle.spelling.specs.Puts.{Put}
 
 -- nothing
@@ -35,19 +35,6 @@ put-push old xs mid at end x h p =
 -- one byte
 pub put-one : (old : List ℕ) (at x : ℕ) → at < length old → Put old at (x ∷ []) (set old at x) (at + 1)
 put-one old at x h = put-push old [] old at at x (omega arith) (put-none old at)
-
--- one element before a piece
-pub written-front : {X : Type 0} (old new : List X) (a : ℕ) (x : X) → a < length old → set (written old (a + 1) new) a x ≡ written old a (x ∷ new)
-written-front {X} old new a x h =
-    let back = drop (a + 1 + length new) old in
-    let front = take a old in
-    let y = getD old a x in
-    let last : a + 1 + length new ≡ a + length (x ∷ new) = omega arith in
-    ap (λ (f : List X). set ((f ++ new) ++ back) a x) (take-more old a x h)
-    ∙ ap (λ (l : List X). set l a x) (append-assoc (front ++ y ∷ []) new back ∙ append-assoc front (y ∷ []) (new ++ back))
-    ∙ set-at front y (new ++ back) x a (length-take-le a old (omega arith))
-    ∙ sym (append-assoc front (x ∷ new) back)
-    ∙ ap (λ (n : ℕ). (front ++ x ∷ new) ++ drop n old) last
 
 -- one byte before a piece
 pub put-front : (old xs mid : List ℕ) (at from end x : ℕ) → from ≡ at + 1 → at < length old → Put old from xs mid end → Put old at (x ∷ xs) (set mid at x) end

@@ -13,7 +13,7 @@ use Rattle.std.proofs.shelf.Ways.{tells}
 use Rattle.netlist.specs.declared.terms.Order.the-variants.{Value}
 use Rattle.netlist.specs.declared.terms.Term.{Term}
 use Rattle.spelling.specs.Lines.{term-text, rest-text, sum-text, line-text}
-use Rattle.spelling.proofs.Joins.{joined-take-more, length-joined-take}
+use Rattle.netlist.proofs.Joined.{joined-take-le, joined-next}
 
 -- what a read past the end would give
 abbrev pub nothing : Term
@@ -34,13 +34,13 @@ module _ (variables : ℕ) (ts : List Term) where
   length-line = let both = length-append (sum-text variables ts) (codes " = 0\n") in omega arith
 
   pub rest-more : (i : ℕ) → i < length ts → rest-text variables (take (i + 1) ts) ≡ rest-text variables (take i ts) ++ 32 ∷ term-text variables (getD ts i nothing)
-  rest-more i h = joined-take-more (λ t. 32 ∷ term-text variables t) ts i nothing h
+  rest-more i h = joined-next (λ t. 32 ∷ term-text variables t) ts i nothing h
 
   -- the terms that a loop has reached, and the one that it is at, are in the whole
   pub rest-room : (i : ℕ) → i < length ts → length (rest-text variables (take i ts)) + 1 + length (term-text variables (getD ts i nothing)) ≤ length (rest-text variables ts)
   rest-room i h =
       let text = term-text variables (getD ts i nothing) in
-      omega (arith, ap length (rest-more i h), length-append (rest-text variables (take i ts)) (32 ∷ text), length-joined-take (λ t. 32 ∷ term-text variables t) ts (i + 1))
+      omega (arith, ap length (rest-more i h), length-append (rest-text variables (take i ts)) (32 ∷ text), joined-take-le (λ t. 32 ∷ term-text variables t) (i + 1) ts)
 
   -- and what a loop has still before it begins with the one that it is at
   pub rest-left : (i : ℕ) → i < length ts → length (rest-text variables (drop i ts)) ≡ 1 + length (term-text variables (getD ts i nothing)) + length (rest-text variables (drop (i + 1) ts))

@@ -2,7 +2,11 @@
 use netlist::refusals::Refusal;
 use std::error::AnyError;
 
-pub fn tell(rt: &LibcRuntime, call: &str, answer: Result<usize, Refusal>) -> Result<(), AnyError> {
+pub(crate) fn tell(
+    rt: &LibcRuntime,
+    call: &str,
+    answer: Result<usize, Refusal>,
+) -> Result<(), AnyError> {
     match answer {
         Ok(given) => println!(rt, "{call}: {given}")?,
         Err(why) => {

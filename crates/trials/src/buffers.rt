@@ -58,7 +58,7 @@ fn print(rt: &LibcRuntime, sheet: &Sheet, k: usize, buffer: &mut [u8]) -> Result
     Ok(())
 }
 
-pub fn run(rt: &LibcRuntime) -> Result<(), AnyError> {
+pub(crate) fn run(rt: &LibcRuntime) -> Result<(), AnyError> {
     let sheet = earthed(rt)?;
     list(rt, &sheet, &mut [OLD; 4], &mut [OLD_SPAN; 3])?;
     list(rt, &sheet, &mut [OLD; 3], &mut [OLD_SPAN; 2])?;

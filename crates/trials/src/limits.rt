@@ -61,7 +61,7 @@ fn law_terms(rt: &LibcRuntime) -> Result<(), AnyError> {
     tell(rt, "five terms more", draft.law(&[TERM; 5]))
 }
 
-pub fn run(rt: &LibcRuntime) -> Result<(), AnyError> {
+pub(crate) fn run(rt: &LibcRuntime) -> Result<(), AnyError> {
     nodes(rt)?;
     variables(rt)?;
     rows(rt)?;

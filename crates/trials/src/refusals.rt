@@ -72,7 +72,7 @@ fn after(rt: &LibcRuntime, draft: &mut Draft) -> Result<(), AnyError> {
 }
 
 // Nodes 0 and 1 are electrical, node 2 is rotational; a branch has taken variables 0 and 1 of six.
-pub fn run(rt: &LibcRuntime) -> Result<(), AnyError> {
+pub(crate) fn run(rt: &LibcRuntime) -> Result<(), AnyError> {
     let mut draft = Draft::new(rt.alloc())?;
     tell(rt, "node 1", draft.node(1))?;
     tell(rt, "node 1", draft.node(1))?;

@@ -79,7 +79,7 @@ fn edges(rt: &LibcRuntime) -> Result<(), AnyError> {
     print(rt, &draft.issue(), &mut [0; 64])
 }
 
-pub fn run(rt: &LibcRuntime) -> Result<(), AnyError> {
+pub(crate) fn run(rt: &LibcRuntime) -> Result<(), AnyError> {
     resistance(rt)?;
     empty(rt)?;
     edges(rt)

@@ -13,7 +13,7 @@ use Rattle.netlist.proofs.Cuts.{length-pieces, flat-pieces}
 use Rattle.equation.specs.Equations.{node-sum, node-sums, row-equation}
 use Rattle.equation.proofs.Counting.{length-listed, flat-listed}
 use Rattle.equation.proofs.Putting.{behind}
-use Rattle.equation.proofs.Summing.{joined-append}
+use Rattle.netlist.proofs.Joined.{joined-append}
 use Rattle.equation.proofs.writing.put_equations.Needs as need
 
 pub put-laws-at-requires : need.put-laws-at-requires
