@@ -1,0 +1,4 @@
+pub mod Stepwise
+pub mod Readers
+pub mod Slots
+pub mod Meanings

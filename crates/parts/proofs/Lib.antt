@@ -1,0 +1,4 @@
+mod Kept
+mod Steps
+mod Filled
+mod Reading
