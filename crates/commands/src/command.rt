@@ -23,7 +23,7 @@ pub enum Command {
         node: usize,
     },
     Law(Terms),
-    // So many singles in a row, between two nodes.
+    // So many singles in series, between two nodes.
     Repeat {
         domain: u32,
         coefficients: [i64; 4],

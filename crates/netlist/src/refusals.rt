@@ -42,7 +42,7 @@ pub enum Refusal {
     TermCount,
     // An order is neither 0 nor 1. Terms are counted from 1.
     Order { term: usize },
-    // A buffer for terms, spans or a line is short.
+    // A buffer for terms, spans, a line or the header is short.
     ShortBuffer,
     // There is no equation of this number.
     NoEquation,
