@@ -16,6 +16,10 @@ use Rattle.spelling.specs.Rules.{judge-text, answer-text}
 use Rattle.equation.specs.Equations.{equations-of}
 use Rattle.equation.specs.Printing.{line-of, judge-line, answer-line, Printed}
 
+-- a buffer into which text was to be printed
+abbrev pub printed : List ℕ → List ℕ → List ℕ
+printed old text = filled (judge-text old text) old text
+
 -- what the call ensures
 pub record Lined (b : Netlist) (k : ℕ) (old : List ℕ) (answered : Result ℕ Refusal) (new : List ℕ) : Type 0 where
   pub answer : answered ≡ answer-line b k old
@@ -32,5 +36,5 @@ module _ (b : Netlist) (k : ℕ) (old : List ℕ) where
   lined text answered new h is p =
       record {
         answer = p .answer ∙ ap (answer-text old) is ∙ ap (λ (o : Option Refusal). answer o (length (line-of b k))) (found h);
-        buffer = p .buffer ∙ ap (λ (t : List ℕ). filled (judge-text old t) old t) is ∙ ap (λ (o : Option Refusal). filled o old (line-of b k)) (found h);
+        buffer = p .buffer ∙ ap (printed old) is ∙ ap (λ (o : Option Refusal). filled o old (line-of b k)) (found h);
       }

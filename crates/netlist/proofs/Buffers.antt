@@ -1,10 +1,10 @@
 -- Writing over a list, piece after piece. Assumes nothing.
-use mathlib.Core.Path.{_≡_, refl, sym, ap, _∙_}
+use mathlib.Core.Path.{_≡_, sym, ap, _∙_}
 use mathlib.Core.List.{List, [], _∷_, _++_}
 use Prim.Native.Nat.{ℕ, _+_, _≤_, _<_}
 use native.Mathlib.Omega.{arith}
 use lib.ListN.{length, take, drop, getD, set}
-use Rattle.std.proofs.shelf.Lists.{append-nil, append-assoc, length-append, length-take-le, length-drop, take-append-drop, drop-more, drop-drop, set-at, take-at, drop-at, length-push, take-more}
+use Rattle.std.proofs.shelf.Lists.{append-nil, append-assoc, length-append, length-take-le, take-append-drop, drop-more, drop-drop, set-at, take-at, drop-at, length-push, take-more}
 use Rattle.netlist.specs.Buffers.{written, over}
 
 module _ {X : Type 0} where
@@ -16,12 +16,6 @@ module _ {X : Type 0} where
     where
       zero-right : a + 0 ≡ a
       zero-right = omega arith
-
-  pub length-written : (old new : List X) (a : ℕ) → a + length new ≤ length old → length (written old a new) ≡ length old
-  length-written old new a h =
-      let front = front-length old new a (omega arith) in
-      let back = length-drop (a + length new) old in
-      length-append (take a old ++ new) (drop (a + length new) old) ∙ omega arith
 
   -- one element more
   pub written-push : (old new : List X) (a : ℕ) (x : X) → a + length new < length old → set (written old a new) (a + length new) x ≡ written old a (new ++ x ∷ [])

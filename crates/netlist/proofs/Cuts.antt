@@ -4,7 +4,7 @@ use mathlib.Core.List.{List, [], _∷_, _++_}
 use Prim.Native.Nat.{ℕ, zero, suc, _+_, _-_, _≤_, _<_}
 use native.Mathlib.Omega.{arith}
 use lib.ListN.{length, take, drop, getD}
-use Rattle.std.proofs.shelf.Lists.{length-take-le, length-drop, take-append-le, drop-append-le, take-all, nil-from-length, drop-drop, at-drop-more, take-append-drop, length-append, take-more}
+use Rattle.std.proofs.shelf.Lists.{length-take-le, length-drop, take-append-le, drop-append-le, take-all, nil-from-length, drop-drop, take-append-drop, length-append, take-more}
 use Rattle.netlist.specs.Netlist.{term-count}
 use Rattle.netlist.specs.Pieces.{total, pieces, flat}
 
@@ -36,23 +36,6 @@ pieces-push {X} (n ∷ ns) ts new h =
     let front = take-append-le n ts new fits in
     let back = drop-append-le n ts new fits in
     (λ i. front i ∷ pieces (ns ++ length new ∷ []) (back i)) ∙ ap (λ (ps : List (List X)). take n ts ∷ ps) (pieces-push ns (drop n ts) new rest)
-
--- The pieces from place i on, which begin at start: the first of them, as code cuts it out, and the rest.
-module _ {X : Type 0} (ns : List ℕ) (ts : List X) (i start d : ℕ) (left : start + total (drop i ns) ≡ length ts) (within : i < length ns) where
-  pub total-left : (start + getD ns i d) + total (drop (i + 1) ns) ≡ length ts
-  total-left = omega (arith, at-drop-more total ns i d within)
-
-  pub piece-ends : start + getD ns i d ≤ length ts
-  piece-ends = omega (arith, total-left)
-
-  pub pieces-left : pieces (drop i ns) (drop start ts) ≡ take (start + getD ns i d - start) (drop start ts) ∷ pieces (drop (i + 1) ns) (drop (start + getD ns i d) ts)
-  pieces-left =
-      let n : getD ns i d ≡ start + getD ns i d - start = omega arith in
-      at-drop-more (λ (xs : List ℕ). pieces xs (drop start ts)) ns i d within
-      ∙ (λ j. take (n j) (drop start ts) ∷ pieces (drop (i + 1) ns) (drop-drop (getD ns i d) start ts j))
-
-  pub piece-length : length (take (start + getD ns i d - start) (drop start ts)) ≡ getD ns i d
-  piece-length = let h = total-left in length-take-le _ (drop start ts) (omega (arith, length-drop start ts)) ∙ omega arith
 
 -- the terms again, from the pieces
 pub flat-pieces : {X : Type 0} (ns : List ℕ) (ts : List X) → total ns ≡ length ts → flat (pieces ns ts) ≡ ts

@@ -5,15 +5,12 @@ use borrow.Author.Needs.{needs}
 use Prim.Native.Nat.{ℕ, _+_, _-_}
 use lib.ListN.{getD, take, drop}
 use Rattle.netlist.specs.declared.terms.Term.{Term}
-use Rattle.netlist.specs.Buffers.{filled}
 use Rattle.netlist.specs.Pieces.{pieces}
 use Rattle.netlist.proofs.Cuts.{total-next, total-front, piece-from}
 use Rattle.spelling.specs.Lines.{line-text}
-use Rattle.spelling.specs.Rules.{judge-text, answer-text}
+use Rattle.spelling.specs.Rules.{answer-text}
+use Rattle.equation.proofs.Printing.{printed}
 use Rattle.equation.proofs.lines.law_line.Needs as need
-
-abbrev printed : List ℕ → List ℕ → List ℕ
-printed old text = filled (judge-text old text) old text
 
 pub add-end : need.add-end
 add-end c =

@@ -3,17 +3,14 @@ use mathlib.Core.List.{List}
 use Prim.Native.Nat.{ℕ, _-_}
 use lib.ListN.{take}
 use Rattle.netlist.specs.declared.terms.Term.{Term}
-use Rattle.netlist.specs.Buffers.{filled}
 use Rattle.spelling.specs.Lines.{line-text}
-use Rattle.spelling.specs.Rules.{judge-text, answer-text}
+use Rattle.spelling.specs.Rules.{answer-text}
 use Rattle.equation.specs.Equations.{node-sum}
 use native.Mathlib.Omega.{arith}
 use borrow.Author.Needs.{needs}
 use Rattle.equation.proofs.Finding.{few-terms, read-again}
+use Rattle.equation.proofs.Printing.{printed}
 use Rattle.equation.proofs.lines.node_line.Needs as need
-
-abbrev printed : List ℕ → List ℕ → List ℕ
-printed old text = filled (judge-text old text) old text
 
 pub put-node-end-requires : need.put-node-end-requires
 put-node-end-requires c κs = let few = few-terms (c .args .rows .now) (c .args .node) in search needs

@@ -3,15 +3,12 @@ use mathlib.Core.List.{List}
 use Prim.Native.Nat.{ℕ, _-_}
 use lib.ListN.{take}
 use Rattle.netlist.specs.declared.terms.Term.{Term}
-use Rattle.netlist.specs.Buffers.{filled}
 use Rattle.spelling.specs.Lines.{line-text}
-use Rattle.spelling.specs.Rules.{judge-text, answer-text}
+use Rattle.spelling.specs.Rules.{answer-text}
 use Rattle.equation.specs.Equations.{row-equation}
 use Rattle.equation.proofs.Finding.{read-again}
+use Rattle.equation.proofs.Printing.{printed}
 use Rattle.equation.proofs.lines.row_line.Needs as need
-
-abbrev printed : List ℕ → List ℕ → List ℕ
-printed old text = filled (judge-text old text) old text
 
 pub returns : need.returns
 returns c =
