@@ -1,5 +1,7 @@
 // Lists and prints a sheet at all its limits. How much that is goes to standard output, and how long
 // it took to standard error.
+#![tactic(auto)]
+
 use equation::lines::line;
 use equation::listing::{equations, size};
 use netlist::spans::Span;

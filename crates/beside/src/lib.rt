@@ -1,6 +1,8 @@
 // Two assemblies side by side, between the same two ends. The layer's inner nodes, variables, rows and
 // laws are the one part's, then the other's. It is void where a part is, where the domains of an end
 // differ, and where it has too much.
+#![tactic(auto)]
+
 ghost use Rattle.std.specs.Prelude.{◌≡◌};
 ghost use Rattle.layers.specs.Two.{Tells, Limited};
 ghost use Rattle.beside.specs.Beside.{beside, in_parallel, meet, front_place, back_place};

@@ -1,4 +1,6 @@
 // What the lines of a sheet text command, as numbers that borrow nothing.
+#![tactic(auto)]
+
 mod command;
 mod next;
 mod read;

@@ -1,5 +1,7 @@
 // The mathematics of readings, for every kind of quantity: walks along rows and potentials, and the net
 // flow of a set of nodes. Each theorem is the contract of a function, which computes nothing.
+#![tactic(auto)]
+
 ghost use Rattle.network.specs.Flows.{FlowIsExcess, SetsKeepAsNodes};
 ghost use Rattle.network.specs.Walks.{WalksAddToDifferences, PotentialsBalance, BalanceHasPotentials};
 

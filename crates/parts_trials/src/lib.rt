@@ -1,4 +1,6 @@
 // Trials of the assemblies of `parts` on small plans.
+#![tactic(auto)]
+
 #[cfg(test)]
 mod tests {
     use assembly::Assembly;

@@ -1,4 +1,6 @@
 // Kinds of exact quantity, and what holds of every kind.
+#![tactic(auto)]
+
 mod differences;
 mod kind;
 mod numbers;

@@ -1,4 +1,6 @@
 // A third kind of quantity, as an example: a change of a two-way switch.
+#![tactic(auto)]
+
 ghost use Rattle.quantity_example.specs.Switches.{switches};
 
 use quantity::Quantity;

@@ -1,4 +1,6 @@
 // Trials of the kinds of quantity: where numbers wrap, part by part, and in generic code.
+#![tactic(auto)]
+
 #[cfg(test)]
 mod tests {
     use quantity::{Phasor, Quantity, Whole, difference, multiple_of_total, total};

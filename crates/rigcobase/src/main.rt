@@ -1,4 +1,6 @@
 // Draws a hoist's plant sheet, issues it, and prints the equations that it stands for.
+#![tactic(auto)]
+
 mod hoist;
 
 use anyhow::anyhow;

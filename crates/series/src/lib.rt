@@ -2,6 +2,8 @@
 // layer's ends are the first part's first and the second part's second. Its inner nodes are the first
 // part's, the second part's and the joint; its variables, rows and laws the first part's, then the
 // second's. It is void where a part is, where the domains that meet differ, and where it has too much.
+#![tactic(auto)]
+
 ghost use Rattle.std.specs.Prelude.{◌≡◌};
 ghost use Rattle.layers.specs.Two.{Tells, Limited};
 ghost use Rattle.series.specs.Series.{series, in_series, meet, front_place, back_place};

@@ -1,4 +1,6 @@
 // Examples of drawing and of refusals.
+#![tactic(auto)]
+
 #[cfg(test)]
 mod tests {
     use netlist::refusals::{Argument, Refusal};

@@ -1,5 +1,7 @@
 // An equation, and the header above a list of them, printed as a line of bytes into a buffer of the
 // caller's.
+#![tactic(auto)]
+
 mod bytes;
 mod decimals;
 pub mod headers;

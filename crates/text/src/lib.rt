@@ -1,5 +1,7 @@
 // The lines of a sheet text: each is a part of the caller's bytes, and is either of an allowed form or
 // goes wrong at one exact column.
+#![tactic(auto)]
+
 mod fields;
 mod kinds;
 mod limit;

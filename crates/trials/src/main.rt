@@ -1,4 +1,5 @@
 // Prints what the calls answer on small drafts and sheets, to be held against what they should answer.
+#![tactic(auto)]
 
 mod answers;
 mod buffers;
