@@ -4,8 +4,8 @@ use Rattle.text.specs.Grammar.{Allowed}
 use Rattle.text.proofs.Forms.{comment_line}
 use Rattle.text.proofs.read.read_line.Goals as goal
 
-pub returns-in-default : goal.returns-in-default
-returns-in-default c =
+pub returns-in_default : goal.returns-in_default
+returns-in_default c =
     let empty = nil_from_length c.args.line.bytes.now (omega (arith, ltb-true)) in
     (subst Allowed (sym empty) tt, (empty, refl))
 

@@ -5,21 +5,21 @@ use Rattle.text.proofs.Steps.{fill_marked}
 use Rattle.text.proofs.Gaps.{gap_kind, gap_all}
 use Rattle.text.proofs.scan.skip_group.Goals as goal
 
-pub returns-in-err-at : goal.returns-in-err-at
-returns-in-err-at c =
-    let p = err_from_is_err_and c.from-residual.result c.from-residual.ensures.1 in
+pub returns-in_err-at : goal.returns-in_err-at
+returns-in_err-at c =
+    let p = err_from_is_err_and c.from_residual.result c.from_residual.ensures.1 in
     let ks = c.args.kinds.now in
     let i = c.loop-kind.kind-index in
     rw (p.1, p.2) (record {
-      places = omega (arith, c.in-err-at.ensures.places);
+      places = omega (arith, c.in_err-at.ensures.places);
       skips = λ ts all gap.
-          c.in-err-at.ensures.skips (none (drop (i + 1) ks)) (marked (drop (i + 1) ks) ts) (fill_marked (drop (i + 1) ks) ts) all
+          c.in_err-at.ensures.skips (none (drop (i + 1) ks)) (marked (drop (i + 1) ks) ts) (fill_marked (drop (i + 1) ks) ts) all
           (gap_kind ks i c.loop-kind.at _ ts c.loop-kind-test.true (search rules) (c.loop-kind.invariant.2 all ts gap));
     })
 
 pub loop-kind-preserved : goal.loop-kind-preserved
 loop-kind-preserved c =
-    let told = c.in-ok-at.ensures in
+    let told = c.in_ok-at.ensures in
     let ks = c.args.kinds.now in
     let i = c.loop-kind.kind-index in (
       omega (arith, told.places.0),

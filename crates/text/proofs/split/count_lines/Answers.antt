@@ -4,7 +4,7 @@ use Rattle.text.proofs.split.count_lines.Goals as goal
 
 pub loop-line-init : goal.loop-line-init
 loop-line-init c =
-    let same = c.into-iter-line-iterator.ensures.into-iter-gives in
+    let same = c.into_iter-line-iterator.ensures.into_iter_gives in
     let made = c.lines-line-items.ensures in
     (cc (same, made.1), ([], cc (same, made.0), refl))
 

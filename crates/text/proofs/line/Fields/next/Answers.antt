@@ -21,14 +21,14 @@ returns c =
         refl,
         refl,
         record {
-          stands = subst (Stands c.field-at.result c.args.self.now.line) past c.field-at.ensures.stands;
-          spells = c.field-at.ensures.spells;
+          stands = subst (Stands c.field_at.result c.args.self.now.line) past c.field_at.ensures.stands;
+          spells = c.field_at.ensures.spells;
           low = omega arith;
           high = word_within bytes at c.blank.result (omega arith) told.within;
         },
       );
       first = λ g gs here whole.
           let word = first_word bytes at c.blank.result g gs (record { within = told.within; before = told.before; found = told.found }) here whole in
-          (subst (Spells c.field-at.result) word.0 c.field-at.ensures.spells, word.1);
+          (subst (Spells c.field_at.result) word.0 c.field_at.ensures.spells, word.1);
       none = λ empty. some_word bytes at (omega arith) empty;
     }

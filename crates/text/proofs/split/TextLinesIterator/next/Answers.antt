@@ -7,9 +7,9 @@ use Rattle.text.proofs.split.TextLinesIterator.next.Goals as goal
 use Rattle.text.proofs.split.TextLinesIterator.next.Goals.{then-end-rest, else-end-rest}
 use Rattle.std.proofs.iter.Next.{firm}
 
-pub returns-then-is-empty : goal.returns-then-is-empty
-returns-then-is-empty c =
-    let empty = nil_from_length c.args.self.now.rest.now (true-eqb _ 0 c.if-is-empty.ensures) in
+pub returns-then-is_empty : goal.returns-then-is_empty
+returns-then-is_empty c =
+    let empty = nil_from_length c.args.self.now.rest.now (true-eqb _ 0 c.if-is_empty.ensures) in
     record {
       steps = record { empty = empty; listed = ap lines_of empty ∙ cut_none 10; rest_empty = empty; count = refl };
       goes = firm (tt) (λ h. search rules);
@@ -19,7 +19,7 @@ pub returns : goal.returns
 returns c =
     let text = c.args.self.now.rest.now in
     let told = c.newline-end.ensures in
-    let some = false-eqb _ 0 c.if-is-empty.ensures in
+    let some = false-eqb _ 0 c.if-is_empty.ensures in
     let past : Past text c.newline-end.result c.if-end-rest.next =
     elim c.if-end-rest.branch [ then-end-rest w ↦ inl (w.if-end-rest.true, w.next-is) | else-end-rest w ↦ inr (w.if-end-rest.false, w.next-is) ] in
     let first = first_line text _ _ (omega arith) told.within told.before told.found past in
