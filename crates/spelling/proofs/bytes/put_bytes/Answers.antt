@@ -11,8 +11,8 @@ bounds-buffer-end c =
     let front = length-take-le c.loop-byte.byte-index c.args.source.now (omega arith) in
     omega (arith, c.loop-byte.invariant.ends)
 
-pub overflow-add-end : goal.overflow-add-end
-overflow-add-end c = search rules
+pub overflow_add-end : goal.overflow_add-end
+overflow_add-end c = search rules
 
 pub loop-byte-preserved : goal.loop-byte-preserved
 loop-byte-preserved c =

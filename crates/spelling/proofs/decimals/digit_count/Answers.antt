@@ -3,8 +3,8 @@ use Rattle.std.proofs.lemmas.Fmt.{decimal_digit, length-decimal-le}
 use Rattle.spelling.proofs.Digits.{length_decimal_step}
 use Rattle.spelling.proofs.decimals.digit_count.Goals as goal
 
-pub overflow-add-count : goal.overflow-add-count
-overflow-add-count c =
+pub overflow_add-count : goal.overflow_add-count
+overflow_add-count c =
     let most = length-decimal-le 20 c.args.number (lit< tt) (omega arith) (omega arith) in
     search rules
 

@@ -6,10 +6,10 @@ use Rattle.spelling.proofs.Putting.{put_none, put_front, put_same}
 use Rattle.spelling.proofs.decimals.put_decimal.Goals as goal
 
 pub loop-rest-init : goal.loop-rest-init
-loop-rest-init c = ([], append-nil (decimal c.args.number), omega (arith, c.digit-count.ensures.value), omega arith, put_none _ _)
+loop-rest-init c = ([], append-nil (decimal c.args.number), omega (arith, c.digit_count.ensures.value), omega arith, put_none _ _)
 
-pub overflow-sub-place : goal.overflow-sub-place
-overflow-sub-place c = omega (arith, c.loop-rest.invariant.2, decimal_nonempty c.loop-rest.rest (omega arith))
+pub overflow_sub-place : goal.overflow_sub-place
+overflow_sub-place c = omega (arith, c.loop-rest.invariant.2, decimal_nonempty c.loop-rest.rest (omega arith))
 
 -- the place before is in the buffer
 pub bounds-buffer-place : goal.bounds-buffer-place

@@ -13,14 +13,14 @@ bounds-buffer-end c =
     let room = rest_room c.args.variables c.args.terms.now c.loop-term.term-index c.loop-term-test.true in
     omega (arith, c.loop-term.invariant.ends)
 
-pub overflow-add-end : goal.overflow-add-end
-overflow-add-end c =
+pub overflow_add-end : goal.overflow_add-end
+overflow_add-end c =
     let room = rest_room c.args.variables c.args.terms.now c.loop-term.term-index c.loop-term-test.true in
     let inside : c.loop-term.end < length c.args.buffer.now = omega (arith, c.loop-term.invariant.ends) in
     search rules
 
-pub put-term-end-requires : goal.put-term-end-requires
-put-term-end-requires c =
+pub put_term-end-requires : goal.put_term-end-requires
+put_term-end-requires c =
     let room = rest_room c.args.variables c.args.terms.now c.loop-term.term-index c.loop-term-test.true in
     omega (arith, c.loop-term.invariant.ends, length-set c.loop-term.buffer c.loop-term.end 32)
 
@@ -34,7 +34,7 @@ loop-term-preserved c =
     let ends = c.loop-term.invariant.ends in
     let text = term_text variables (get_or terms i nothing) in
     let room = rest_room variables terms i c.loop-term-test.true in
-    let next = put_put mid (32 ∷ []) text (set mid end 32) _ end _ _ (omega arith) (put_one mid end 32 (omega arith)) c.put-term-end.ensures in
+    let next = put_put mid (32 ∷ []) text (set mid end 32) _ end _ _ (omega arith) (put_one mid end 32 (omega arith)) c.put_term-end.ensures in
     put_same (sym (rest_more variables terms i c.loop-term-test.true))
     (put_put c.args.buffer.now (rest_text variables (take i terms)) (32 ∷ text) mid _ c.args.at end _ (omega arith) c.loop-term.invariant next)
 
