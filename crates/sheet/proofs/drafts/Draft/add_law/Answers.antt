@@ -10,8 +10,8 @@ add-requires c =
     let f = law_accepted c.args.self.now.taken.len c.args.terms.now c.requires.passed in
     record { room = c.requires.room; count = f.count; sized = f.sized }
 
-pub invariant-of-self : goal.invariant-of-self
-invariant-of-self c =
+pub invariant_of-self : goal.invariant_of-self
+invariant_of-self c =
     let d = c.args.self.now in
     let f = law_accepted d.taken.len c.args.terms.now c.requires.passed in
     let named : every (names d.taken.len) c.add.new.self.terms.items ≡ true =

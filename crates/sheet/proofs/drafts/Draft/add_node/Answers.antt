@@ -7,15 +7,15 @@ use Rattle.netlist.proofs.Joining.{all_join_node}
 use Rattle.sheet.specs.Held.{netlist_of}
 use Rattle.sheet.proofs.drafts.Draft.add_node.Goals as goal
 
-pub invariant-of-self : goal.invariant-of-self
-invariant-of-self c =
+pub invariant_of-self : goal.invariant_of-self
+invariant_of-self c =
     let d = c.args.self.now in
-    let joined : every (joins (map domain_number c.push-reserved.new.self.items)) d.rows.items ≡ true =
-    simp (c.push-reserved.ensures.items, map_push) (all_join_node (map domain_number d.domains.items) (domain_number c.args.domain) d.rows.items d.joined) in
+    let joined : every (joins (map domain_number c.push_reserved.new.self.items)) d.rows.items ≡ true =
+    simp (c.push_reserved.ensures.items, map_push) (all_join_node (map domain_number d.domains.items) (domain_number c.args.domain) d.rows.items d.joined) in
     ((omega arith, omega arith), (d.variables_fit, (d.rows_fit, (joined, (d.marked, (d.named, tt))))))
 
 pub returns : goal.returns
 returns c =
     let b = netlist_of c.args.self.now in
     ap (λ (ds : List ℕ). record { domains = ds; variables = b.variables; rows = b.rows; laws = b.laws })
-    (ap (map domain_number) c.push-reserved.ensures.items ∙ map_push domain_number c.args.self.now.domains.items c.args.domain)
+    (ap (map domain_number) c.push_reserved.ensures.items ∙ map_push domain_number c.args.self.now.domains.items c.args.domain)

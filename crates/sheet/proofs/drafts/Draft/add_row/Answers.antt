@@ -7,8 +7,8 @@ use Rattle.netlist.proofs.Taking.{marked_row}
 use Rattle.sheet.specs.Held.{netlist_of}
 use Rattle.sheet.proofs.drafts.Draft.add_row.Goals as goal
 
-pub invariant-of-self : goal.invariant-of-self
-invariant-of-self c =
+pub invariant_of-self : goal.invariant_of-self
+invariant_of-self c =
     let d = c.args.self.now in
     let row = c.args.row in
     let f = row_fresh (netlist_of d) row c.requires.passed in (
@@ -18,9 +18,9 @@ invariant-of-self c =
         (
           (omega arith, omega arith),
           (
-            simp c.push-reserved.ensures.items (every_push (joins (map domain_number d.domains.items)) d.rows.items row d.joined f.joins),
+            simp c.push_reserved.ensures.items (every_push (joins (map domain_number d.domains.items)) d.rows.items row d.joined f.joins),
             (
-              λ v. simp (c.push-reserved.ensures.items, c.flow-flow.ensures, c.across-across.ensures) (marked_row d.taken.items d.rows.items row (omega (arith, f.flow_drawn)) (omega (arith, f.across_drawn)) f.apart f.flow_free f.across_free d.marked v),
+              λ v. simp (c.push_reserved.ensures.items, c.flow-flow.ensures, c.across-across.ensures) (marked_row d.taken.items d.rows.items row (omega (arith, f.flow_drawn)) (omega (arith, f.across_drawn)) f.apart f.flow_free f.across_free d.marked v),
               (d.named, tt),
             ),
           ),

@@ -16,5 +16,5 @@ returns c =
     let b = netlist_of c.args.self.now in
     let ts = c.args.terms.now in
     let read = ap (λ (n : ℕ). first_of (table_law n ts)) c.len.ensures in
-    c.judge-room.ensures
-    ∙ sym (passed_over (table_law b.variables ts) (room_law b.laws (length ts)) (sym read ∙ sym c.judge_law.ensures ∙ c.in-default.is))
+    c.judge_room.ensures
+    ∙ sym (passed_over (table_law b.variables ts) (room_law b.laws (length ts)) (sym read ∙ sym c.judge_law.ensures ∙ c.in_default.is))

@@ -4,9 +4,9 @@ use Rattle.netlist.proofs.Tables.{parts}
 use Rattle.sheet.specs.Held.{netlist_of}
 use Rattle.sheet.proofs.drafts.Draft.law.Goals as goal
 
-pub add-law-requires : goal.add-law-requires
-add-law-requires c =
+pub add_law-requires : goal.add_law-requires
+add_law-requires c =
     let b = netlist_of c.args.self.now in
     let ts = c.args.terms.now in
-    let p = parts (table_law b.variables ts) (room_law b.laws (length ts)) (sym c.judge_law.ensures ∙ c.in-default.is) in
+    let p = parts (table_law b.variables ts) (room_law b.laws (length ts)) (sym c.judge_law.ensures ∙ c.in_default.is) in
     record { room = p.1; passed = p.0 }

@@ -8,8 +8,8 @@ use Rattle.netlist.proofs.Rooms.{no_node_left, node_left}
 use Rattle.sheet.specs.Held.{netlist_of}
 use Rattle.sheet.proofs.drafts.Draft.node.Goals as goal
 
-pub returns-then-node-ge-MAX-NODES : goal.returns-then-node-ge-MAX-NODES
-returns-then-node-ge-MAX-NODES c =
+pub returns-then-node-ge-MAX_NODES : goal.returns-then-node-ge-MAX_NODES
+returns-then-node-ge-MAX_NODES c =
     let d = c.args.self.now in
     let b = netlist_of d in
     let nodes = length-map d.domains.items domain_number in
@@ -29,6 +29,6 @@ returns c =
     record {
       answer = ap Ok number ∙ ap (λ (o : Option Refusal). answer o (length b.domains)) judged;
       netlist =
-          c.add-node.ensures ∙ ap (λ (k : ℕ). with_nodes b (k ∷ [])) c.in-Some.ensures
+          c.add_node.ensures ∙ ap (λ (k : ℕ). with_nodes b (k ∷ [])) c.in-Some.ensures
           ∙ ap (λ (o : Option Refusal). after o b (with_nodes b (c.args.domain ∷ []))) judged;
     }

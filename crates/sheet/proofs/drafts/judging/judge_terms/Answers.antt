@@ -7,12 +7,12 @@ use Rattle.sheet.proofs.drafts.judging.judge_terms.Goals as goal
 
 pub loop-i-preserved : goal.loop-i-preserved
 loop-i-preserved c =
-    terms_next c.args.variables c.args.terms.now c.loop-i.i _ c.loop-i-test.true (sym c.judge-term.ensures ∙ c.in-default.is)
+    terms_next c.args.variables c.args.terms.now c.loop-i.i _ c.loop-i-test.true (sym c.judge_term.ensures ∙ c.in_default.is)
     ∙ c.loop-i.invariant
 
 pub returns-in-Some : goal.returns-in-Some
 returns-in-Some c =
-    sym (terms_stop c.args.variables c.args.terms.now c.loop-i.i _ c.in-Some.why c.loop-i-test.true (sym c.judge-term.ensures ∙ c.in-Some.is))
+    sym (terms_stop c.args.variables c.args.terms.now c.loop-i.i _ c.in-Some.why c.loop-i-test.true (sym c.judge_term.ensures ∙ c.in-Some.is))
     ∙ c.loop-i.invariant
 
 pub returns : goal.returns

@@ -15,23 +15,23 @@ append-requires c =
     let t = c.args.self.now in
     record { room = omega (arith, term_count_of t, terms_left (laws_of t) _ c.requires.room); sized = c.requires.sized }
 
-pub push-reserved-requires : goal.push-reserved-requires
-push-reserved-requires c =
+pub push_reserved-requires : goal.push_reserved-requires
+push_reserved-requires c =
     let t = c.args.self.now in
     omega (arith, law_count t, laws_left (laws_of t) _ c.requires.room)
 
-pub invariant-of-self : goal.invariant-of-self
-invariant-of-self c =
+pub invariant_of-self : goal.invariant_of-self
+invariant_of-self c =
     let t = c.args.self.now in
     let n = length c.args.terms.now in
     let laws = law_count t in
     let terms = term_count_of t in
     let law-room = laws_left (laws_of t) _ c.requires.room in
     let term-room = terms_left (laws_of t) _ c.requires.room in
-    let cut : total c.push-reserved.new.self.items ≡ c.append.new.to.len =
-    ap total c.push-reserved.ensures.items ∙ total_push t.lengths.items n ∙ omega arith in
-    let counted : every is_term_count c.push-reserved.new.self.items ≡ true =
-    simp c.push-reserved.ensures.items (every_push is_term_count t.lengths.items n t.counted c.requires.count) in
+    let cut : total c.push_reserved.new.self.items ≡ c.append.new.to.len =
+    ap total c.push_reserved.ensures.items ∙ total_push t.lengths.items n ∙ omega arith in
+    let counted : every is_term_count c.push_reserved.new.self.items ≡ true =
+    simp c.push_reserved.ensures.items (every_push is_term_count t.lengths.items n t.counted c.requires.count) in
     let sized : every is_sized c.append.new.to.items ≡ true =
     simp c.append.ensures.items (every_append is_sized t.terms.items (map term_of c.args.terms.now) t.sized c.requires.sized) in
     ((omega arith, omega arith), ((omega arith, omega arith), (cut, (counted, (sized, tt)))))
@@ -43,7 +43,7 @@ returns c =
     let new = map term_of ts in
     record {
       laws =
-          (λ i. pieces (c.push-reserved.ensures.items i) (c.append.ensures.items i))
+          (λ i. pieces (c.push_reserved.ensures.items i) (c.append.ensures.items i))
           ∙ ap (λ (n : ℕ). pieces (t.lengths.items ++ n ∷ []) (t.terms.items ++ new)) (sym (length-map ts term_of))
           ∙ pieces_push t.lengths.items t.terms.items new (table_cut t);
       terms = c.append.ensures.items;

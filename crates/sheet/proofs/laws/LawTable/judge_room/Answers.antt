@@ -4,8 +4,8 @@ use Rattle.sheet.specs.Held.{laws_of}
 use Rattle.sheet.proofs.Counts.{law_count, term_count_of}
 use Rattle.sheet.proofs.laws.LawTable.judge_room.Goals as goal
 
-pub returns-then-len-ge-MAX-LAWS : goal.returns-then-len-ge-MAX-LAWS
-returns-then-len-ge-MAX-LAWS c =
+pub returns-then-len-ge-MAX_LAWS : goal.returns-then-len-ge-MAX_LAWS
+returns-then-len-ge-MAX_LAWS c =
     let t = c.args.self.now in
     sym (no_law_left (laws_of t) c.args.count (omega (arith, law_count t)))
 

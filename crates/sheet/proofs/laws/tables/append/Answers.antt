@@ -20,7 +20,7 @@ loop-term-preserved c =
     let inv = c.loop-term.invariant in
     let held = c.args.to.now.items in
     let more = map_more term_of c.args.terms.now c.loop-term.term-index _ c.loop-term-test.true in (
-      c.push-reserved.ensures.items ∙ (λ i. inv.0 i ++ (c.accepted.ensures i ∷ [])) ∙ append_assoc held _ _ ∙ ap (λ (xs : List Term). held ++ xs) (sym more),
+      c.push_reserved.ensures.items ∙ (λ i. inv.0 i ++ (c.accepted.ensures i ∷ [])) ∙ append_assoc held _ _ ∙ ap (λ (xs : List Term). held ++ xs) (sym more),
       omega arith,
       omega arith,
     )
