@@ -16,4 +16,4 @@ invariant_of-self c =
     let f = law_accepted d.taken.len c.args.terms.now c.requires.passed in
     let named : every (names d.taken.len) c.add.new.self.terms.items ≡ true =
     simp c.add.ensures.terms (every_append (names d.taken.len) d.laws.terms.items (map term_of c.args.terms.now) d.named f.named) in
-    (d.nodes_fit, (d.variables_fit, (d.rows_fit, (d.joined, (d.marked, (named, tt))))))
+    record { nodes_fit = d.nodes_fit; variables_fit = d.variables_fit; rows_fit = d.rows_fit; joined = d.joined; marked = d.marked; named = named }

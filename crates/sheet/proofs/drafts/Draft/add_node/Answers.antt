@@ -12,7 +12,7 @@ invariant_of-self c =
     let d = c.args.self.now in
     let joined : every (joins (map domain_number c.push_reserved.new.self.items)) d.rows.items ≡ true =
     simp (c.push_reserved.ensures.items, map_push) (all_join_node (map domain_number d.domains.items) (domain_number c.args.domain) d.rows.items d.joined) in
-    ((omega arith, omega arith), (d.variables_fit, (d.rows_fit, (joined, (d.marked, (d.named, tt))))))
+    record { nodes_fit = (omega arith, omega arith); variables_fit = d.variables_fit; rows_fit = d.rows_fit; joined = joined; marked = d.marked; named = d.named }
 
 pub returns : goal.returns
 returns c =

@@ -13,4 +13,4 @@ invariant_of-self c =
     let named =
     subst (λ (k : ℕ). every (names k) d.laws.terms.items ≡ true) (sym len)
     (every_weaker (names n) (names (n + 1)) (λ t h. lt-ltb t.variable (n + 1) (omega (arith, ltb-true t.variable n h))) d.laws.terms.items d.named) in
-    (d.nodes_fit, ((omega arith, omega arith), (d.rows_fit, (d.joined, (λ v. simp c.push_reserved.ensures.items (marked_variable d.taken.items d.rows.items d.marked v), (named, tt))))))
+    record { nodes_fit = d.nodes_fit; variables_fit = (omega arith, omega arith); rows_fit = d.rows_fit; joined = d.joined; marked = (λ v. simp c.push_reserved.ensures.items (marked_variable d.taken.items d.rows.items d.marked v)); named = named }

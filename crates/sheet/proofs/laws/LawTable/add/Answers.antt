@@ -34,7 +34,7 @@ invariant_of-self c =
     simp c.push_reserved.ensures.items (every_push is_term_count t.lengths.items n t.counted c.requires.count) in
     let sized : every is_sized c.append.new.to.items ≡ true =
     simp c.append.ensures.items (every_append is_sized t.terms.items (map term_of c.args.terms.now) t.sized c.requires.sized) in
-    ((omega arith, omega arith), ((omega arith, omega arith), (cut, (counted, (sized, tt)))))
+    record { laws_fit = (omega arith, omega arith); terms_fit = (omega arith, omega arith); cut = cut; counted = counted; sized = sized }
 
 pub returns : goal.returns
 returns c =
