@@ -7,9 +7,9 @@ use super::kind::Quantity;
 
 // `x` less `y`: zero exactly when the two are equal.
 pub fn difference<K: Quantity>(x: K, y: K) -> K
-    ensures value { result ≡ minus group x y }
-    ensures equal { (result ≡ group.zero → x ≡ y) × (x ≡ y → result ≡ group.zero) }
-    ensures negations { Negations group }
+    ensures value { result ≡ minus K.group x y }
+    ensures equal { (result ≡ K.group.zero → x ≡ y) × (x ≡ y → result ≡ K.group.zero) }
+    ensures negations { Negations K.group }
 {
     x.sum(y.negation())
 }

@@ -7,8 +7,8 @@ use super::kind::Quantity;
 
 // The sum of all, and zero of none. Their order does not matter, nor in how many parts they are added up.
 pub fn total<K: Quantity>(quantities: &[K]) -> K
-    ensures value { result ≡ total group quantities.now }
-    ensures totals { Totals group }
+    ensures value { result ≡ total K.group quantities.now }
+    ensures totals { Totals K.group }
 {
     let mut sum = K::zero();
     for quantity in quantities {
@@ -19,8 +19,8 @@ pub fn total<K: Quantity>(quantities: &[K]) -> K
 
 // The sum of the multiples of all, by a single multiple.
 pub fn multiple_of_total<K: Quantity>(coefficient: i32, quantities: &[K]) -> K
-    ensures value { result ≡ total group (map (group.multiple coefficient) quantities.now) }
-    ensures multiples { Multiples group }
+    ensures value { result ≡ total K.group (map (K.group.multiple coefficient) quantities.now) }
+    ensures multiples { Multiples K.group }
 {
     total(quantities).multiple(coefficient)
 }
