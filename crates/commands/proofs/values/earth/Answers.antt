@@ -4,6 +4,6 @@ use Rattle.commands.proofs.values.earth.Goals as goal
 
 pub returns : goal.returns
 returns c =
-    earth_read (rest_of c.args.fields) (rest_of c.next-size-flow.new.fields) (rest_of c.next-size-across.new.fields) (rest_of c.next-size-node.new.fields)
-    c.next-size-flow.result c.next-size-across.result c.next-size-node.result
-    c.next-size-flow.ensures c.next-size-across.ensures c.next-size-node.ensures
+    earth_read (rest_of c.args.fields) (rest_of c.next_size-flow.new.fields) (rest_of c.next_size-across.new.fields) (rest_of c.next_size-node.new.fields)
+    c.next_size-flow.result c.next_size-across.result c.next_size-node.result
+    c.next_size-flow.ensures c.next_size-across.ensures c.next_size-node.ensures

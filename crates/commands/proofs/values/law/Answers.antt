@@ -11,9 +11,9 @@ loop-count-preserved c =
     let told = c.in-Some.ensures in
     filled_more _ c.loop-count.count c.loop-count.slots (rest_of c.loop-count.fields) c.in-Some.term _ c.loop-count-test.true told.term told.none c.loop-count.invariant
 
-pub returns-in-default : goal.returns-in-default
-returns-in-default c =
-    filled_end _ c.loop-count.count c.loop-count.slots (rest_of c.loop-count.fields) c.in-default.ensures.term c.loop-count.invariant
+pub returns-in_default : goal.returns-in_default
+returns-in_default c =
+    filled_end _ c.loop-count.count c.loop-count.slots (rest_of c.loop-count.fields) c.in_default.ensures.term c.loop-count.invariant
 
 pub returns : goal.returns
 returns c =

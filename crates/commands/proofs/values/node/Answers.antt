@@ -4,6 +4,6 @@ use Rattle.commands.proofs.values.node.Goals as goal
 
 pub returns : goal.returns
 returns c =
-    node_read (rest_of c.args.fields) (rest_of c.next-number-domain.new.fields)
-    c.next-number-domain.result
-    c.next-number-domain.ensures
+    node_read (rest_of c.args.fields) (rest_of c.next_number-domain.new.fields)
+    c.next_number-domain.result
+    c.next_number-domain.ensures
