@@ -9,8 +9,8 @@ pub returns-then-not-begins : goal.returns-then-not-begins
 returns-then-not-begins c =
     sym (fill_more c.loop-s.at c.args.terms c.args.parts.now c.loop-s.s-index _ false c.loop-s-test.true (sym c.if-not-begins.ensures)) ∙ c.loop-s.invariant.0
 
-pub overflow-add-at : goal.overflow-add-at
-overflow-add-at c =
+pub overflow_add-at : goal.overflow_add-at
+overflow_add-at c =
     let s = get_or c.args.parts.now c.loop-s.s-index (record { offset = 0; length = 0 }) in
     let few : s.length ≤ 8 = begins_length c.loop-s.at s (sym c.if-not-begins.ensures) in
     search rules

@@ -4,5 +4,5 @@ use Rattle.parts.proofs.stored.Stored.new.Goals as goal
 
 pub returns : goal.returns
 returns c =
-    let s : Stored = record { tables = c.args.tables; sound = c.is-sound-sound.result } in
-    record { value = held_stored s c.is-sound-sound.ensures; whole = held_whole s c.is-sound-sound.ensures }
+    let s : Stored = record { tables = c.args.tables; sound = c.is_sound-sound.result } in
+    record { value = held_stored s c.is_sound-sound.ensures; whole = held_whole s c.is_sound-sound.ensures }
