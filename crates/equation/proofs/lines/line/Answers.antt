@@ -18,15 +18,15 @@ use Rattle.equation.proofs.Sizing.{numbered}
 use Rattle.equation.proofs.Viewing.{law_count}
 use Rattle.equation.proofs.lines.line.Goals as goal
 
-pub returns-then-k-law-count : goal.returns-then-k-law-count
-returns-then-k-law-count c =
+pub returns-then-k-law_count : goal.returns-then-k-law_count
+returns-then-k-law_count c =
     let b = netlist_of_sheet c.args.sheet.now in
     let k = c.args.k in
     let laws = law_count _ _ b.laws c.laws-laws.ensures.value c.laws-laws.ensures.cut in
     let all = length_listed b.laws b.rows (length b.domains) b.variables in
-    let within : k < length b.laws = omega (arith, c.if-k-law-count.true) in
+    let within : k < length b.laws = omega (arith, c.if-k-law_count.true) in
     let same = ap (λ (ls : List (List Term)). get_or ls k []) c.laws-laws.ensures.value ∙ sym (law_at b.laws b.rows (length b.domains) b.variables k within) in
-    let p = lined b k c.args.buffer.now _ c.law-line.result c.law-line.new.buffer (omega arith) (λ i. line_text (c.variables-variables.ensures i) (same i)) c.law-line.ensures in
+    let p = lined b k c.args.buffer.now _ c.law_line.result c.law_line.new.buffer (omega arith) (λ i. line_text (c.variables-variables.ensures i) (same i)) c.law_line.ensures in
     record { answer = p.answer; buffer = p.buffer }
 
 pub returns-then-node-nodes : goal.returns-then-node-nodes
@@ -38,15 +38,15 @@ returns-then-node-nodes c =
     let laws = law_count _ _ b.laws c.laws-laws.ensures.value c.laws-laws.ensures.cut in
     let all = length_listed b.laws b.rows nodes b.variables in
     let within : n < nodes = omega (arith, c.if-node-nodes.true) in
-    let place : length b.laws + n ≡ k = omega (arith, c.if-k-law-count.false) in
+    let place : length b.laws + n ≡ k = omega (arith, c.if-k-law_count.false) in
     let same =
     ap (λ (rs : List Row). node_sum rs n) c.rows-rows.ensures.value ∙ sym (node_at b.laws b.rows nodes b.variables n within)
     ∙ ap (λ (j : ℕ). get_or (equations_of b) j []) place in
-    let p = lined b k c.args.buffer.now _ c.node-line.result c.node-line.new.buffer (omega arith) (λ i. line_text (c.variables-variables.ensures i) (same i)) c.node-line.ensures in
+    let p = lined b k c.args.buffer.now _ c.node_line.result c.node_line.new.buffer (omega arith) (λ i. line_text (c.variables-variables.ensures i) (same i)) c.node_line.ensures in
     record { answer = p.answer; buffer = p.buffer }
 
-pub row-line-requires : goal.row-line-requires
-row-line-requires c =
+pub row_line-requires : goal.row_line-requires
+row_line-requires c =
     let b = netlist_of_sheet c.args.sheet.now in
     let s = c.rows-rows.ensures.sound in
     let i = c.args.k - length c.laws-laws.result.lengths.now - c.nodes-nodes.result in
@@ -66,12 +66,12 @@ returns-then-row-rows c =
     let rows = ap length c.rows-rows.ensures.value in
     let all = length_listed b.laws b.rows nodes b.variables in
     let within : i < length b.rows = omega (arith, c.if-row-rows.true) in
-    let place : length b.laws + (nodes + i) ≡ k = omega (arith, c.if-k-law-count.false, c.if-node-nodes.false) in
+    let place : length b.laws + (nodes + i) ≡ k = omega (arith, c.if-k-law_count.false, c.if-node-nodes.false) in
     let same = sym (row_at b.laws b.rows nodes b.variables i (Branch 0 0 0 0) within) ∙ ap (λ (j : ℕ). get_or (equations_of b) j []) place in
     let text =
     (λ j. line_text (c.variables-variables.ensures j) (row_equation (c.variables-variables.ensures j) (get_or (c.rows-rows.ensures.value j) i (Branch 0 0 0 0))))
     ∙ ap (line_text b.variables) same in
-    let p = lined b k c.args.buffer.now _ c.row-line.result c.row-line.new.buffer (omega arith) text c.row-line.ensures in
+    let p = lined b k c.args.buffer.now _ c.row_line.result c.row_line.new.buffer (omega arith) text c.row_line.ensures in
     record { answer = p.answer; buffer = p.buffer }
 
 pub returns : goal.returns
@@ -81,7 +81,7 @@ returns c =
     let laws = law_count _ _ b.laws c.laws-laws.ensures.value c.laws-laws.ensures.cut in
     let rows = ap length c.rows-rows.ensures.value in
     let all = length_listed b.laws b.rows (length b.domains) b.variables in
-    let past : length (equations_of b) ≤ k = omega (arith, c.if-k-law-count.false, c.if-node-nodes.false, c.if-row-rows.false) in
+    let past : length (equations_of b) ≤ k = omega (arith, c.if-k-law_count.false, c.if-node-nodes.false, c.if-row-rows.false) in
     let judged = sym (no_equation b k c.args.buffer.now past) in
     record {
       answer = ap (λ (o : Option Refusal). answer o (length (line_of b k))) judged;

@@ -7,18 +7,18 @@ use Rattle.equation.proofs.Finding.{few_terms, read_again}
 use Rattle.equation.proofs.Printing.{printed}
 use Rattle.equation.proofs.lines.node_line.Goals as goal
 
-pub put-node-end-requires : goal.put-node-end-requires
-put-node-end-requires c = let few = few_terms c.args.rows.now c.args.node in search rules
+pub put_node-end-requires : goal.put_node-end-requires
+put_node-end-requires c = let few = few_terms c.args.rows.now c.args.node in search rules
 
-pub slice-bounds-write-line-end : goal.slice-bounds-write-line-end
-slice-bounds-write-line-end c = let few = few_terms c.args.rows.now c.args.node in search rules
+pub slice_bounds-write_line-end : goal.slice_bounds-write_line-end
+slice_bounds-write_line-end c = let few = few_terms c.args.rows.now c.args.node in search rules
 
 pub returns : goal.returns
 returns c =
     let e = node_sum c.args.rows.now c.args.node in
-    let again : take (c.put-node-end.result - 0) c.put-node-end.new.terms ≡ e =
-    ap (take (c.put-node-end.result - 0)) c.put-node-end.ensures.after ∙ read_again _ e c.put-node-end.result c.put-node-end.ensures.value in
+    let again : take (c.put_node-end.result - 0) c.put_node-end.new.terms ≡ e =
+    ap (take (c.put_node-end.result - 0)) c.put_node-end.ensures.after ∙ read_again _ e c.put_node-end.result c.put_node-end.ensures.value in
     record {
-      answer = c.write-line.ensures.answer ∙ ap (λ (ts : List Term). answer_text c.args.buffer.now (line_text c.args.variables ts)) again;
-      buffer = c.write-line.ensures.buffer ∙ ap (λ (ts : List Term). printed c.args.buffer.now (line_text c.args.variables ts)) again;
+      answer = c.write_line.ensures.answer ∙ ap (λ (ts : List Term). answer_text c.args.buffer.now (line_text c.args.variables ts)) again;
+      buffer = c.write_line.ensures.buffer ∙ ap (λ (ts : List Term). printed c.args.buffer.now (line_text c.args.variables ts)) again;
     }

@@ -10,9 +10,9 @@ use Rattle.equation.proofs.lines.row_line.Goals as goal
 pub returns : goal.returns
 returns c =
     let e = row_equation c.args.variables c.args.row in
-    let again : take (c.put-row-end.result - 0) c.put-row-end.new.terms ≡ e =
-    ap (take (c.put-row-end.result - 0)) c.put-row-end.ensures.after ∙ read_again _ e c.put-row-end.result c.put-row-end.ensures.value in
+    let again : take (c.put_row-end.result - 0) c.put_row-end.new.terms ≡ e =
+    ap (take (c.put_row-end.result - 0)) c.put_row-end.ensures.after ∙ read_again _ e c.put_row-end.result c.put_row-end.ensures.value in
     record {
-      answer = c.write-line.ensures.answer ∙ ap (λ (ts : List Term). answer_text c.args.buffer.now (line_text c.args.variables ts)) again;
-      buffer = c.write-line.ensures.buffer ∙ ap (λ (ts : List Term). printed c.args.buffer.now (line_text c.args.variables ts)) again;
+      answer = c.write_line.ensures.answer ∙ ap (λ (ts : List Term). answer_text c.args.buffer.now (line_text c.args.variables ts)) again;
+      buffer = c.write_line.ensures.buffer ∙ ap (λ (ts : List Term). printed c.args.buffer.now (line_text c.args.variables ts)) again;
     }

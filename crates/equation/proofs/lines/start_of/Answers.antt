@@ -2,8 +2,8 @@ use Rattle.std.proofs.Common.{◌+◌, sym, ◌∙◌, arith, rules}
 use Rattle.netlist.proofs.Cuts.{total_next, total_front}
 use Rattle.equation.proofs.lines.start_of.Goals as goal
 
-pub overflow-add-start : goal.overflow-add-start
-overflow-add-start c =
+pub overflow_add-start : goal.overflow_add-start
+overflow_add-start c =
     let more = total_next c.args.lengths.now c.loop-i.i (omega arith) in
     let front = total_front c.args.lengths.now (c.loop-i.i + 1) in
     search rules

@@ -33,8 +33,8 @@ returns-then-whole-terms c =
       placed = placed b c.rows-rows.ensures.sound;
     }
 
-pub put-equations-requires : goal.put-equations-requires
-put-equations-requires c =
+pub put_equations-requires : goal.put_equations-requires
+put_equations-requires c =
     let b = netlist_of_sheet c.args.sheet.now in
     let s = c.rows-rows.ensures.sound in
     let size = ap (λ (w : Listing). w.terms) c.size-whole.ensures in
@@ -46,8 +46,8 @@ put-equations-requires c =
       numbered =
           subst (λ (p : ℕ × List Row). All (Numbered p.0) p.1) (λ i. (sym c.variables.ensures i, sym c.rows-rows.ensures.value i))
           (numbered b.domains b.variables b.rows s.within.nodes s.within.variables s.joined);
-      terms-room = omega (arith, ap (λ (es : List (List Term)). length (flat es)) is);
-      spans-room = omega (arith, ap (λ (es : List (List Term)). length es) is);
+      terms_room = omega (arith, ap (λ (es : List (List Term)). length (flat es)) is);
+      spans_room = omega (arith, ap (λ (es : List (List Term)). length es) is);
     }
 
 pub returns : goal.returns
@@ -65,7 +65,7 @@ returns c =
     let judged = sym (enough b m k fits many) in
     record {
       answer = ap Ok c.size-whole.ensures ∙ ap (λ (o : Option Refusal). answer o (listing_of b)) judged;
-      terms = c.put-equations.ensures.terms ∙ ap (λ (xs : List (List Term)). over c.args.terms.now (flat xs)) is ∙ ap (λ (o : Option Refusal). filled o c.args.terms.now (flat es)) judged;
-      spans = c.put-equations.ensures.spans ∙ ap (λ (xs : List (List Term)). over c.args.spans.now (spans_from 0 xs)) is ∙ ap (λ (o : Option Refusal). filled o c.args.spans.now (spans_from 0 es)) judged;
+      terms = c.put_equations.ensures.terms ∙ ap (λ (xs : List (List Term)). over c.args.terms.now (flat xs)) is ∙ ap (λ (o : Option Refusal). filled o c.args.terms.now (flat es)) judged;
+      spans = c.put_equations.ensures.spans ∙ ap (λ (xs : List (List Term)). over c.args.spans.now (spans_from 0 xs)) is ∙ ap (λ (o : Option Refusal). filled o c.args.spans.now (spans_from 0 es)) judged;
       placed = placed b c.rows-rows.ensures.sound;
     }

@@ -7,7 +7,7 @@ use Rattle.equation.specs.Equations.{node_sum}
 use Rattle.netlist.proofs.Buffers.{written_none, written_push}
 use Rattle.equation.proofs.Summing.{sum_more, sum_same, sum_room}
 use Rattle.equation.proofs.nodes.put_node.Goals as goal
-use Rattle.equation.proofs.nodes.put_node.Goals.{in-Some, in-default}
+use Rattle.equation.proofs.nodes.put_node.Goals.{in-Some, in_default}
 
 pub loop-k-init : goal.loop-k-init
 loop-k-init c = (omega arith, sym (written_none _ c.args.at))
@@ -20,11 +20,11 @@ room c =
 pub bounds-terms-end : goal.bounds-terms-end
 bounds-terms-end c = omega (arith, room c)
 
-pub offset-bounds-terms-end : goal.offset-bounds-terms-end
-offset-bounds-terms-end c = let r = room c in search rules
+pub offset_bounds-terms-end : goal.offset_bounds-terms-end
+offset_bounds-terms-end c = let r = room c in search rules
 
-pub overflow-add-end : goal.overflow-add-end
-overflow-add-end c = let r = room c in search rules
+pub overflow_add-end : goal.overflow_add-end
+overflow_add-end c = let r = room c in search rules
 
 pub loop-k-preserved : goal.loop-k-preserved
 loop-k-preserved c =
@@ -35,7 +35,7 @@ loop-k-preserved c =
     let i = c.loop-k.k in
     let inv = c.loop-k.invariant in
     let sum = node_sum (take i rows) n in
-    elim c.match-term-at.branch [
+    elim c.match-term_at.branch [
       | in-Some w ↦
           let is = sym c.term_at.ensures ∙ w.in-Some.is in
           let more = sum_more rows n i _ c.loop-k-test.true w.in-Some.term is in
@@ -43,8 +43,8 @@ loop-k-preserved c =
             omega (arith, w.end-is, ap length more, length-append sum (w.in-Some.term ∷ [])),
             w.terms-is ∙ (λ k. set (inv.1 k) (inv.0 k) w.in-Some.term) ∙ written_push old sum at w.in-Some.term (omega arith) ∙ ap (written old at) (sym more),
           )
-      | in-default w ↦
-          let same = sum_same rows n i _ c.loop-k-test.true (sym c.term_at.ensures ∙ w.in-default.is) in (
+      | in_default w ↦
+          let same = sum_same rows n i _ c.loop-k-test.true (sym c.term_at.ensures ∙ w.in_default.is) in (
             w.end-is ∙ inv.0 ∙ ap (λ (xs : List Term). at + length xs) (sym same),
             w.terms-is ∙ inv.1 ∙ ap (written old at) (sym same),
           )

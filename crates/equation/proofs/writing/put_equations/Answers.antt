@@ -11,34 +11,34 @@ use Rattle.equation.proofs.Putting.{behind}
 use Rattle.netlist.proofs.Joined.{joined_append}
 use Rattle.equation.proofs.writing.put_equations.Goals as goal
 
-pub put-laws-at-requires : goal.put-laws-at-requires
-put-laws-at-requires c =
+pub put_laws-at-requires : goal.put_laws-at-requires
+put_laws-at-requires c =
     let laws = pieces c.args.lengths.now c.args.source.now in
     let size = flat_listed laws c.args.rows.now c.args.nodes c.args.variables in
     let count = length_listed laws c.args.rows.now c.args.nodes c.args.variables in
     let law-size = ap length (flat_pieces c.args.lengths.now c.args.source.now c.requires.cut) in
     let law_count = length_pieces c.args.lengths.now c.args.source.now in
-    record { cut = c.requires.cut; terms-room = omega arith; spans-room = omega arith }
+    record { cut = c.requires.cut; terms_room = omega arith; spans_room = omega arith }
 
-pub put-nodes-end-requires : goal.put-nodes-end-requires
-put-nodes-end-requires c =
+pub put_nodes-end-requires : goal.put_nodes-end-requires
+put_nodes-end-requires c =
     let laws = pieces c.args.lengths.now c.args.source.now in
     let size = flat_listed laws c.args.rows.now c.args.nodes c.args.variables in
     let count = length_listed laws c.args.rows.now c.args.nodes c.args.variables in
     let law_count = length_pieces c.args.lengths.now c.args.source.now in
-    let kept = c.put-laws-at.auto in
-    record { terms-room = omega arith; spans-room = omega arith }
+    let kept = c.put_laws-at.auto in
+    record { terms_room = omega arith; spans_room = omega arith }
 
-pub put-rows-requires : goal.put-rows-requires
-put-rows-requires c =
+pub put_rows-requires : goal.put_rows-requires
+put_rows-requires c =
     let laws = pieces c.args.lengths.now c.args.source.now in
     let size = flat_listed laws c.args.rows.now c.args.nodes c.args.variables in
     let count = length_listed laws c.args.rows.now c.args.nodes c.args.variables in
     let law_count = length_pieces c.args.lengths.now c.args.source.now in
-    record { numbered = c.requires.numbered; terms-room = omega arith; spans-room = omega arith }
+    record { numbered = c.requires.numbered; terms_room = omega arith; spans_room = omega arith }
 
-pub overflow-add-laws : goal.overflow-add-laws
-overflow-add-laws c =
+pub overflow_add-laws : goal.overflow_add-laws
+overflow_add-laws c =
     let laws = pieces c.args.lengths.now c.args.source.now in
     let count = length_listed laws c.args.rows.now c.args.nodes c.args.variables in
     let law_count = length_pieces c.args.lengths.now c.args.source.now in
@@ -59,8 +59,8 @@ returns c =
     let both-size = ap length (joined_append (λ (e : List Term). e) sums own) ∙ length-append (flat sums) (flat own) in
     let size = flat_listed laws rows c.args.nodes c.args.variables in
     let count = length_listed laws rows c.args.nodes c.args.variables in
-    let later = behind c.put-laws-at.new.terms c.put-nodes-end.new.terms c.put-rows.new.terms c.put-laws-at.new.spans c.put-nodes-end.new.spans c.put-rows.new.spans c.put-laws-at.result (length lengths) c.put-nodes-end.result (length lengths + c.args.nodes) c.put-rows.result sums own (omega arith) (omega arith) (omega arith) c.put-nodes-end.ensures c.put-rows.ensures in
-    let all = behind c.args.terms.now c.put-laws-at.new.terms c.put-rows.new.terms c.args.spans.now c.put-laws-at.new.spans c.put-rows.new.spans 0 0 c.put-laws-at.result (length lengths) c.put-rows.result laws (sums ++ own) (omega arith) (omega arith) (omega arith) c.put-laws-at.ensures later in
+    let later = behind c.put_laws-at.new.terms c.put_nodes-end.new.terms c.put_rows.new.terms c.put_laws-at.new.spans c.put_nodes-end.new.spans c.put_rows.new.spans c.put_laws-at.result (length lengths) c.put_nodes-end.result (length lengths + c.args.nodes) c.put_rows.result sums own (omega arith) (omega arith) (omega arith) c.put_nodes-end.ensures c.put_rows.ensures in
+    let all = behind c.args.terms.now c.put_laws-at.new.terms c.put_rows.new.terms c.args.spans.now c.put_laws-at.new.spans c.put_rows.new.spans 0 0 c.put_laws-at.result (length lengths) c.put_rows.result laws (sums ++ own) (omega arith) (omega arith) (omega arith) c.put_laws-at.ensures later in
     record {
       terms = all.terms ∙ written_over c.args.terms.now _;
       spans = all.spans ∙ written_over c.args.spans.now _;

@@ -23,23 +23,23 @@ module _ (lengths : List ℕ) (source : List Term) (i start : ℕ) (cut : total 
   law_length : length (take (start + get_or lengths i 0 - start) (drop start source)) ≡ get_or lengths i 0
   law_length = let h = ends in length-take-le _ (drop start source) (omega (arith, length-drop start source)) ∙ omega arith
 
-pub overflow-add-start : goal.overflow-add-start
-overflow-add-start c =
+pub overflow_add-start : goal.overflow_add-start
+overflow_add-start c =
     let h = ends c.args.lengths.now c.args.source.now c.loop-i.i c.loop-i.start c.requires.cut c.loop-i.invariant.next c.loop-i-test.true in
     search rules
 
-pub offset-bounds-source-start : goal.offset-bounds-source-start
-offset-bounds-source-start c =
+pub offset_bounds-source-start : goal.offset_bounds-source-start
+offset_bounds-source-start c =
     let h = ends c.args.lengths.now c.args.source.now c.loop-i.i c.loop-i.start c.requires.cut c.loop-i.invariant.next c.loop-i-test.true in
     search rules
 
-pub slice-bounds-put-all-end : goal.slice-bounds-put-all-end
-slice-bounds-put-all-end c =
+pub slice_bounds-put_all-end : goal.slice_bounds-put_all-end
+slice_bounds-put_all-end c =
     let h = ends c.args.lengths.now c.args.source.now c.loop-i.i c.loop-i.start c.requires.cut c.loop-i.invariant.next c.loop-i-test.true in
     search rules
 
-pub put-all-end-requires : goal.put-all-end-requires
-put-all-end-requires c =
+pub put_all-end-requires : goal.put_all-end-requires
+put_all-end-requires c =
     let lengths = c.args.lengths.now in
     let source = c.args.source.now in
     let h = ends lengths source c.loop-i.i c.loop-i.start c.requires.cut c.loop-i.invariant.next c.loop-i-test.true in
@@ -59,9 +59,9 @@ loop-i-preserved c =
     let whole : length (flat all) ≡ length source = ap length (flat_pieces lengths source c.requires.cut) in
     let long = law_length lengths source i from c.requires.cut c.loop-i.invariant.next c.loop-i-test.true in
     let place : i ≡ 0 + i = omega arith in
-    one_more c.args.terms.now c.args.spans.now 0 0 all i _ (omega arith) (law_is lengths source i from c.requires.cut c.loop-i.invariant.next c.loop-i-test.true) c.loop-i.terms _ spans _ from _ (omega arith) (omega arith) c.loop-i.invariant c.put-all-end.ensures.after
+    one_more c.args.terms.now c.args.spans.now 0 0 all i _ (omega arith) (law_is lengths source i from c.requires.cut c.loop-i.invariant.next c.loop-i-test.true) c.loop-i.terms _ spans _ from _ (omega arith) (omega arith) c.loop-i.invariant c.put_all-end.ensures.after
     (λ j. set spans (place j) (record { offset = from; length = sym long j }))
-    c.put-all-end.ensures.value
+    c.put_all-end.ensures.value
 
 pub returns : goal.returns
 returns c =

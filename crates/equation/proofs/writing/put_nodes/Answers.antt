@@ -12,8 +12,8 @@ loop-node-init c = start c.args.terms.now c.args.spans.now c.args.at c.args.k
 sum_at : (rows : List Row) (nodes node : ℕ) → node < nodes → get_or (node_sums rows nodes) node [] ≡ node_sum rows node
 sum_at rows nodes node h = get_or-map-range_with_len (node_sum rows) 0 nodes node node [] h (omega arith)
 
-pub put-node-end-requires : goal.put-node-end-requires
-put-node-end-requires c =
+pub put_node-end-requires : goal.put_node-end-requires
+put_node-end-requires c =
     let rows = c.args.rows.now in
     let node = c.loop-node.node in
     let nodes = c.args.nodes in
@@ -28,10 +28,10 @@ loop-node-preserved c =
     let nodes = c.args.nodes in
     let spans = c.loop-node.spans in
     let count = length-map-range_with_len (node_sum rows) 0 nodes in
-    let size : c.put-node-end.result - c.loop-node.start ≡ length (node_sum rows node) = omega arith in
-    one_more c.args.terms.now c.args.spans.now c.args.at c.args.k (node_sums rows nodes) node (node_sum rows node) (omega arith) (sum_at rows nodes node c.loop-node-test.true) c.loop-node.terms _ spans _ c.loop-node.start _ c.requires.terms-room (omega arith) c.loop-node.invariant c.put-node-end.ensures.after
+    let size : c.put_node-end.result - c.loop-node.start ≡ length (node_sum rows node) = omega arith in
+    one_more c.args.terms.now c.args.spans.now c.args.at c.args.k (node_sums rows nodes) node (node_sum rows node) (omega arith) (sum_at rows nodes node c.loop-node-test.true) c.loop-node.terms _ spans _ c.loop-node.start _ c.requires.terms_room (omega arith) c.loop-node.invariant c.put_node-end.ensures.after
     (ap (λ (n : ℕ). set spans (c.args.k + node) (record { offset = c.loop-node.start; length = n })) size)
-    c.put-node-end.ensures.value
+    c.put_node-end.ensures.value
 
 pub returns : goal.returns
 returns c =

@@ -11,8 +11,8 @@ use Rattle.equation.proofs.writing.put_rows.Goals as goal
 pub loop-i-init : goal.loop-i-init
 loop-i-init c = start c.args.terms.now c.args.spans.now c.args.at c.args.k
 
-pub put-row-end-requires : goal.put-row-end-requires
-put-row-end-requires c =
+pub put_row-end-requires : goal.put_row-end-requires
+put_row-end-requires c =
     let rows = c.args.rows.now in
     let f = row_equation c.args.variables in
     let i = c.loop-i.i in
@@ -31,10 +31,10 @@ loop-i-preserved c =
     let spans = c.loop-i.spans in
     let count = length-map rows f in
     let e = f (get_or rows i (Branch 0 0 0 0)) in
-    let size : c.put-row-end.result - c.loop-i.start ≡ length e = omega (arith, c.put-row-end.ensures.value) in
-    one_more c.args.terms.now c.args.spans.now c.args.at c.args.k (map f rows) i e (omega arith) (get_or-map f rows i (Branch 0 0 0 0) [] c.loop-i-test.true) c.loop-i.terms _ spans _ c.loop-i.start _ c.requires.terms-room (omega arith) c.loop-i.invariant c.put-row-end.ensures.after
+    let size : c.put_row-end.result - c.loop-i.start ≡ length e = omega (arith, c.put_row-end.ensures.value) in
+    one_more c.args.terms.now c.args.spans.now c.args.at c.args.k (map f rows) i e (omega arith) (get_or-map f rows i (Branch 0 0 0 0) [] c.loop-i-test.true) c.loop-i.terms _ spans _ c.loop-i.start _ c.requires.terms_room (omega arith) c.loop-i.invariant c.put_row-end.ensures.after
     (ap (λ (n : ℕ). set spans (c.args.k + i) (record { offset = c.loop-i.start; length = n })) size)
-    c.put-row-end.ensures.value
+    c.put_row-end.ensures.value
 
 pub returns : goal.returns
 returns c =
