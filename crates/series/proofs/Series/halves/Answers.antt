@@ -9,7 +9,7 @@ pub returns : goal.returns
 returns g c =
     halved meet in_series 1 size_in_series
     (g.A.Assembly.meaning c.args.self.now.first) (g.B.Assembly.meaning c.args.self.now.second)
-    c.in-ok-first.ensures.value c.in-ok-second.ensures.value
-    c.in-ok-first.ensures.proper c.in-ok-second.ensures.proper
-    (sym (c.if-not-same-domain.ensures ∙ (λ i. same_domain (c.domain.ensures i) (c.domain-2.ensures i))))
+    c.in_ok-first.ensures.value c.in_ok-second.ensures.value
+    c.in_ok-first.ensures.proper c.in_ok-second.ensures.proper
+    (sym (c.if-not-same_domain.ensures ∙ (λ i. same_domain (c.domain.ensures i) (c.domain-2.ensures i))))
     c.new.ensures

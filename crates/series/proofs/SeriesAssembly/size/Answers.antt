@@ -5,6 +5,6 @@ use Rattle.series.proofs.SeriesAssembly.size.Goals as goal
 
 pub returns : goal.returns
 returns g c = record {
-  value = layer_size in_series c.in-ok-parts.ensures;
-  proper = series_proper c.in-ok-parts.ensures;
+  value = layer_size in_series c.in_ok-parts.ensures;
+  proper = series_proper c.in_ok-parts.ensures;
 }
