@@ -8,7 +8,7 @@ pub returns : goal.returns
 returns g c =
     halved meet in_parallel 0 size_in_parallel
     (g.A.Assembly.meaning c.args.self.now.one) (g.B.Assembly.meaning c.args.self.now.other)
-    c.in-ok-one.ensures.value c.in-ok-other.ensures.value
-    c.in-ok-one.ensures.proper c.in-ok-other.ensures.proper
-    (sym c.if-not-ends-meet.ensures)
+    c.in_ok-one.ensures.value c.in_ok-other.ensures.value
+    c.in_ok-one.ensures.proper c.in_ok-other.ensures.proper
+    (sym c.if-not-ends_meet.ensures)
     c.new.ensures

@@ -5,6 +5,6 @@ use Rattle.beside.proofs.SideBySideAssembly.size.Goals as goal
 
 pub returns : goal.returns
 returns g c = record {
-  value = layer_size in_parallel c.in-ok-parts.ensures;
-  proper = beside_proper c.in-ok-parts.ensures;
+  value = layer_size in_parallel c.in_ok-parts.ensures;
+  proper = beside_proper c.in_ok-parts.ensures;
 }
