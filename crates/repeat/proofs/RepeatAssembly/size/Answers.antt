@@ -3,6 +3,6 @@ use Rattle.repeat.proofs.RepeatAssembly.size.Goals as goal
 
 pub returns : goal.returns
 returns g c = record {
-  value = copies_size c.args.self.now.times c.in-ok-copies.ensures;
-  proper = copies_proper c.args.self.now.times c.in-ok-copies.ensures;
+  value = copies_size c.args.self.now.times c.in_ok-copies.ensures;
+  proper = copies_proper c.args.self.now.times c.in_ok-copies.ensures;
 }

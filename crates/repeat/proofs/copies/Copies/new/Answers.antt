@@ -2,5 +2,5 @@ use Rattle.std.proofs.Common.{sym, arith}
 use Rattle.repeat.proofs.InCopies.{not_small_times}
 use Rattle.repeat.proofs.copies.Copies.new.Goals as goal
 
-pub returns-then-not-is-small : goal.returns-then-not-is-small
-returns-then-not-is-small c = not_small_times c.args.times c.args.part (omega arith) (sym c.if-not-is-small.ensures)
+pub returns-then-not-is_small : goal.returns-then-not-is_small
+returns-then-not-is_small c = not_small_times c.args.times c.args.part (omega arith) (sym c.if-not-is_small.ensures)
