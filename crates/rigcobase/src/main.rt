@@ -16,21 +16,18 @@ use std::io::Write;
 const LINE_BYTES: usize = 16_384;
 
 // A refusal by its number, its place and its cause.
-fn told(heap: Global, why: Refusal) -> anyhow::Error {
+fn told(why: Refusal) -> anyhow::Error {
     let number = why.number();
     let place = why.place();
     let cause = why.cause();
-    match format!(in heap; "refused {number} {place} {cause}") {
-        Ok(text) => text.into(),
-        Err(_) => "refused".into(),
-    }
+    anyhow!("refused {number} {place} {cause}")
 }
 
 fn drawn(heap: Global) -> anyhow::Result<Sheet> {
     let mut draft = Draft::new(heap)?;
     match hoist::draw(&mut draft) {
         Ok(()) => Ok(draft.issue()),
-        Err(why) => Err(told(heap, why)),
+        Err(why) => Err(told(why)),
     }
 }
 
@@ -38,7 +35,7 @@ fn drawn(heap: Global) -> anyhow::Result<Sheet> {
 fn show(rt: &HostRuntime, buffer: &[u8], printed: Result<usize, Refusal>) -> anyhow::Result<()> {
     let length = match printed {
         Ok(length) => length,
-        Err(why) => return Err(told(rt.alloc(), why)),
+        Err(why) => return Err(told(why)),
     };
     if length > buffer.len() {
         return Err(anyhow!("a line longer than its buffer"));
