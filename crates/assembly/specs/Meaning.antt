@@ -1,5 +1,5 @@
 -- What an assembly means: void, or a plan; and what each query tells of it. Assumes nothing.
-use Rattle.std.specs.Prelude.{◌≡◌, ℕ, ◌≤◌, Bool, true, false, List, [], ◌∷◌, ◌++◌, map, length, Some, None, Option, slice_index_or}
+use Rattle.std.specs.Prelude.{◌≡◌, ℕ, ◌≤◌, Bool, true, false, List, [], ◌++◌, map, length, Some, None, Option, slice_index_or}
 use Rattle.netlist.specs.declared.domains.Domain.{Domain}
 use Rattle.netlist.specs.Sound.{every, is_term_count}
 use Rattle.assembly.specs.declared.plans.PlanRow.{PlanRow}

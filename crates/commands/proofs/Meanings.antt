@@ -1,23 +1,22 @@
 -- From what the fields of a line spell to what the line commands. Assumes nothing.
-use Rattle.std.proofs.Common.{◌≡◌, ℕ, zero, suc, ◌+◌, ◌<◌, ◌≤◌, List, [], ◌∷◌, ◌++◌, length, get_or, drop, sym, refl, ap, ◌∙◌, subst, append-nil, arith}
+use Rattle.std.proofs.Common.{◌≡◌, ℕ, zero, suc, ◌≤◌, List, [], ◌∷◌, ◌++◌, length, get_or, drop, sym, refl, ap, ◌∙◌, subst, append-nil, arith}
 use Rattle.text.specs.declared.kinds.Kind.{Kind}
-use Rattle.text.specs.declared.kinds.Kind.TheVariants.{Number, Coefficient}
 use Rattle.text.specs.declared.line.Fields.{Fields}
 use Rattle.text.specs.declared.line.Line.{Line}
 use Rattle.text.specs.declared.line.Line.TheVariants as line
 use Rattle.text.specs.declared.line.TextLine.{TextLine}
-use Rattle.text.specs.Grammar.{Bytes, Plain, Text, Matches, repeated, row, Form, groups, form, Grouped, Rest, Allowed}
+use Rattle.text.specs.Grammar.{Bytes, Text, Matches, repeated, row, groups, form, Grouped, Rest, Allowed}
 use Rattle.text.specs.Faults.{FaultAt}
 use Rattle.text.specs.Cut.{cut}
 use Rattle.text.specs.Reading.{Led, Says, Unbroken, rest_of}
 use Rattle.text.proofs.Columns.{one_column}
 use Rattle.text.proofs.Pieces.{cut_next, cut_last}
-use Rattle.text.proofs.Steps.{head_same, tail_same, never_empty}
+use Rattle.text.proofs.Steps.{never_empty}
 use Rattle.text.proofs.Words.{text_unbroken}
 use Rattle.commands.specs.declared.command.Command.{Command}
-use Rattle.commands.specs.declared.command.Command.TheVariants.{Law, Nothing}
-use Rattle.commands.specs.Spelling.{fields_of, terms_of, slotted, spelled, command_of}
-use Rattle.commands.specs.Steps.{Reads, ReadsLaw, node_kinds, branch_kinds, earth_kinds, repeat_kinds, term_kinds}
+use Rattle.commands.specs.declared.command.Command.TheVariants.{Law}
+use Rattle.commands.specs.Spelling.{fields_of, spelled, command_of}
+use Rattle.commands.specs.Steps.{Reads, node_kinds, branch_kinds, earth_kinds, repeat_kinds, term_kinds}
 use Rattle.commands.specs.Lines.{Follows, Commands, Faulty}
 
 -- fields with a blank between them, cut at the blanks

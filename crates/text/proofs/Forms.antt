@@ -1,9 +1,9 @@
 -- Groups of fields as slots, and from the lines of one form to all lines. Assumes nothing.
-use Rattle.std.proofs.Common.{◌≡◌, ℕ, zero, suc, ◌+◌, ◌-◌, ◌<◌, ◌≤◌, Bool, true, false, List, [], ◌∷◌, ◌++◌, length, get_or, take, sym, refl, ap, ◌∙◌, subst, arith}
+use Rattle.std.proofs.Common.{◌≡◌, ℕ, zero, suc, ◌-◌, ◌<◌, ◌≤◌, false, List, [], ◌∷◌, ◌++◌, length, get_or, take, sym, refl, ap, ◌∙◌, subst, arith}
 use Rattle.std.specs.List.{between}
 use Rattle.std.proofs.lemmas.Slice.{first_rest}
 use Rattle.text.specs.declared.kinds.Kind.{Kind}
-use Rattle.text.specs.Grammar.{Bytes, Matches, repeated, row, Grouped, Form, groups, form, Rest, Allowed}
+use Rattle.text.specs.Grammar.{Bytes, Matches, repeated, Grouped, groups, form, Rest, Allowed}
 use Rattle.text.specs.Faults.{Begins, FaultAt}
 use Rattle.text.specs.Scan.{Fits, none, marked, layout, Row, Laid}
 

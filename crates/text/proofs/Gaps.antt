@@ -1,9 +1,9 @@
 -- A scan from gap to gap, and the fault where it stops. Assumes nothing.
-use Rattle.std.proofs.Common.{◌≡◌, ℕ, zero, suc, ◌+◌, ◌-◌, ◌<◌, ◌≤◌, Bool, true, false, ◌⊎◌, List, [], ◌∷◌, ◌++◌, length, get_or, take, drop, sym, refl, ap, ◌∙◌, subst, inl, inr, ⊎_elim, append_assoc, append-nil, arith, take-append-drop}
+use Rattle.std.proofs.Common.{◌≡◌, ℕ, zero, suc, ◌+◌, ◌-◌, ◌<◌, ◌≤◌, Bool, true, false, List, [], ◌∷◌, ◌++◌, length, get_or, take, drop, sym, refl, ap, ◌∙◌, subst, ⊎_elim, append_assoc, append-nil, arith, take-append-drop}
 use Rattle.std.proofs.lemmas.List.{take_all, take_more, drop_more, drop_all}
 use Rattle.std.proofs.lemmas.Bool.{cases_lt, cases_eq}
 use Rattle.text.specs.declared.kinds.Kind.{Kind}
-use Rattle.text.specs.declared.kinds.Kind.TheVariants.{Number, Coefficient}
+use Rattle.text.specs.declared.kinds.Kind.TheVariants.{Number}
 use Rattle.text.specs.Grammar.{Bytes, Digit, row}
 use Rattle.text.specs.Faults.{Begins, FaultAt}
 use Rattle.text.specs.Scan.{Slot, Fits, none, marked, layout, Row, Laid, Next, Fillable, Gap, SignEnd, DigitRun}

@@ -1,12 +1,9 @@
 -- What each byte of a line leaves to follow. Assumes nothing.
-use Rattle.std.proofs.Common.{◌≡◌, ℕ, zero, suc, ◌+◌, ◌-◌, ◌<◌, ◌≤◌, Bool, true, false, ◌⊎◌, List, [], ◌∷◌, ◌++◌, length, get_or, take, drop, sym, refl, ap, ◌∙◌, subst, inl, inr, ⊎_elim, append_assoc, append-nil, arith, take-append-drop, take_all}
-use Rattle.std.proofs.lemmas.List.{take_more, drop_more}
-use Rattle.std.proofs.lemmas.Bool.{cases_lt, cases_eq}
+use Rattle.std.proofs.Common.{◌≡◌, ℕ, suc, ◌≤◌, Bool, true, false, List, [], ◌∷◌, ◌++◌, length, sym, refl, ap, ◌∙◌, subst, inl, inr, ⊎_elim, arith}
 use Rattle.text.specs.declared.kinds.Kind.{Kind}
 use Rattle.text.specs.declared.kinds.Kind.TheVariants.{Number, Coefficient}
 use Rattle.text.specs.Grammar.{Bytes, Digit, Digits, Plain, Text, row}
-use Rattle.text.specs.Faults.{Begins, FaultAt}
-use Rattle.text.specs.Scan.{Slot, Fits, none, marked, layout, Row, Laid, Next, Fillable, Gap, SignEnd, DigitRun}
+use Rattle.text.specs.Scan.{Slot, Fits, none, marked, Next, Fillable}
 
 -- up to d digits, and then ts
 abbrev pub After : ℕ → Bool → List Slot → Bytes → Type 0

@@ -1,13 +1,13 @@
 -- The first of the fields that stand in a row. Assumes nothing.
-use Rattle.std.proofs.Common.{◌≡◌, ℕ, zero, suc, ◌+◌, ◌-◌, ◌<◌, ◌≤◌, List, [], ◌∷◌, ◌++◌, length, get_or, take, drop, sym, refl, ap, ◌∙◌, subst, ⊎_elim, add-zero, arith, length-append, length-drop}
+use Rattle.std.proofs.Common.{◌≡◌, ℕ, zero, suc, ◌+◌, ◌-◌, ◌<◌, ◌≤◌, List, [], ◌∷◌, ◌++◌, length, get_or, take, drop, sym, ap, ◌∙◌, subst, ⊎_elim, add-zero, arith, length-append, length-drop}
 use Rattle.std.specs.List.{between}
 use Rattle.std.proofs.lemmas.List.{get_or_append_left, get_or-append-add, take_at, drop_at, drop-drop, drop_all, take_rest}
 use Rattle.std.proofs.lemmas.Bool.{cases_lt}
 use Rattle.text.specs.declared.kinds.Kind.{Kind}
 use Rattle.text.specs.declared.kinds.Kind.TheVariants.{Number, Coefficient}
-use Rattle.text.specs.Grammar.{Bytes, Digits, Plain, Text, row}
+use Rattle.text.specs.Grammar.{Bytes, Digits, Text, row}
 use Rattle.text.specs.Reading.{Unbroken}
-use Rattle.text.proofs.Steps.{tail_same, not_nil}
+use Rattle.text.proofs.Steps.{not_nil}
 
 -- n is the place of the first blank of bs, or its end
 pub record FirstBlank (bs : Bytes) (n : ℕ) : Type 0 where

@@ -1,5 +1,5 @@
 -- The numbers that digits write. Assumes nothing.
-use Rattle.std.specs.Prelude.{ℕ, ◌+◌, ◌-◌, ◌*◌, cond, List, [], ◌∷◌, ℤ, pos, neg_ℤ, ◌==◌}
+use Rattle.std.specs.Prelude.{ℕ, ◌+◌, ◌-◌, ◌*◌, cond, [], ◌∷◌, ℤ, pos, neg_ℤ, ◌==◌}
 use Rattle.text.specs.Grammar.{Bytes}
 
 -- the digits of bs after those that write n

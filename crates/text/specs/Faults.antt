@@ -1,5 +1,5 @@
 -- The place where a line that is not allowed goes wrong. Assumes nothing.
-use Rattle.std.specs.Prelude.{◌≡◌, ℕ, ◌+◌, ◌-◌, ◌≤◌, List, ◌++◌, length, take}
+use Rattle.std.specs.Prelude.{◌≡◌, ℕ, ◌+◌, ◌-◌, ◌≤◌, ◌++◌, length, take}
 use Rattle.text.specs.Grammar.{Bytes, Allowed}
 
 -- some line of L begins with p

@@ -1,5 +1,5 @@
 -- What the reader says of a line, and what its fields are. Assumes nothing.
-use Rattle.std.specs.Prelude.{◌≡◌, ℕ, ◌+◌, ◌<◌, ◌≤◌, List, [], ◌∷◌, ◌++◌, length, drop, ℤ, pos, neg_ℤ, IfSome, Option, MatchOption, ◌≢◌, slice_index, slice_index_or}
+use Rattle.std.specs.Prelude.{◌≡◌, ℕ, ◌+◌, ◌<◌, ◌≤◌, List, [], ◌∷◌, length, drop, ℤ, pos, neg_ℤ, IfSome, Option, MatchOption, ◌≢◌, slice_index, slice_index_or}
 use Rattle.std.specs.List.{between}
 use Rattle.text.specs.declared.line.Field.{Field}
 use Rattle.text.specs.declared.line.Field.TheVariants.{Unsigned, Negative}

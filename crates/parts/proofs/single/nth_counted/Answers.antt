@@ -1,4 +1,4 @@
-use Rattle.std.proofs.Common.{filter, sym, ap, ◌∙◌, arith}
+use Rattle.std.proofs.Common.{filter, sym, ap, ◌∙◌}
 use Rattle.std.specs.List.{slice_get}
 use Rattle.std.proofs.lemmas.List.{at_drop_all}
 use Rattle.parts.specs.Single.{is_counted}

@@ -1,4 +1,4 @@
-use Rattle.std.proofs.Common.{◌≡◌, ◌≤◌, true, false, List, get_or, sym, ◌∙◌, arith, rules}
+use Rattle.std.proofs.Common.{◌≤◌, true, false, List, get_or, sym, ◌∙◌, arith, rules}
 use Rattle.std.proofs.lemmas.List.{at_drop_all}
 use Rattle.netlist.specs.declared.spans.Span.{Span}
 use Rattle.parts.specs.Tables.{fill}

@@ -1,4 +1,4 @@
-use Rattle.std.proofs.Common.{◌≡◌, ◌+◌, ◌-◌, true, false, refl, subst, arith}
+use Rattle.std.proofs.Common.{◌≡◌, ◌-◌, true, false, refl, subst, arith}
 use Rattle.std.proofs.lemmas.Result.{err_from_is_err_and}
 use Rattle.text.specs.Scan.{layout, Gap}
 use Rattle.text.proofs.Forms.{allowed_any, fault_any}

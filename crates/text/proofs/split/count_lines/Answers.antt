@@ -1,4 +1,4 @@
-use Rattle.std.proofs.Common.{◌≡◌, ◌+◌, [], sym, refl, ◌∙◌, subst, arith}
+use Rattle.std.proofs.Common.{◌≡◌, ◌+◌, [], refl, subst, arith}
 use Rattle.text.proofs.Ends.{Taken, taken_more, line_count}
 use Rattle.text.proofs.split.count_lines.Goals as goal
 
