@@ -1,5 +1,5 @@
 -- What the assemblies of the trials mean. Assumes nothing.
-use Rattle.std.specs.Prelude.{List, [], ◌∷◌, pos}
+use Rattle.std.specs.Prelude.{[], ◌∷◌, pos}
 use Rattle.assembly.specs.declared.plans.PlanRow.TheVariants.{Branch, Earth}
 use Rattle.assembly.specs.declared.plans.PlanTerm.{PlanTerm}
 use Rattle.assembly.specs.Meaning.{Meaning, void, plan}

@@ -11,7 +11,7 @@ use Rattle.layers.specs.Two.{both_sizes, Halved, Limited}
 use Rattle.layers.proofs.Ends.{length_second, length_ends, nth_first, nth_second, nth_joint, nth_inner}
 use Rattle.layers.proofs.Parts.{by_halves, layer_proper, layer_limited}
 use Rattle.layers.proofs.Small.{size_with}
-use Rattle.series.specs.Series.{series, in_series, front_place, back_place}
+use Rattle.series.specs.Series.{in_series, front_place, back_place}
 
 two_ends_of : (a b : Plan) → Bounded a → Bounded b → length (in_series a b).ends ≡ 2
 two_ends_of a b p q = length_ends a.ends b.ends p.two_ends q.two_ends
