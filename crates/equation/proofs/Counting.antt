@@ -1,5 +1,5 @@
 -- How many equations and terms there are in all. Assumes nothing.
-use Rattle.std.proofs.Common.{◌≡◌, ℕ, ◌+◌, ◌<◌, ◌≤◌, ◌||◌, ltb, ◌⊎◌, List, [], ◌∷◌, ◌++◌, map, length, Some, None, sym, refl, ap, ◌∙◌, ⊎_elim, arith}
+use Rattle.std.proofs.Common.{◌≡◌, ℕ, ◌+◌, ◌<◌, ◌≤◌, ltb, ◌⊎◌, List, [], ◌∷◌, ◌++◌, map, length, Some, None, refl, ap, ⊎_elim, arith}
 use Rattle.std.proofs.lemmas.List.FromFn.{length-map-range_with_len}
 use Rattle.std.proofs.lemmas.List.{length-append, length-map}
 use Rattle.std.proofs.lemmas.Bool.{lt-ltb, le-ltb, or_left, or_right, or_from, cond-true, cond-false}
@@ -9,7 +9,7 @@ use Rattle.netlist.specs.declared.terms.Term.{Term}
 use Rattle.netlist.specs.Netlist.{Netlist, term_count}
 use Rattle.netlist.specs.Pieces.{flat}
 use Rattle.netlist.specs.Sound.{Sound}
-use Rattle.equation.specs.Equations.{node_sum, node_sums, row_equation, listed, equations_of}
+use Rattle.equation.specs.Equations.{node_sum, node_sums, row_equation, listed}
 use Rattle.equation.specs.Listing.{listing_of, judge_equations}
 use Rattle.equation.specs.Writing.{row_sizes}
 use Rattle.equation.proofs.Sizing.{sizes_are}

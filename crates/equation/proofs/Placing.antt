@@ -1,16 +1,16 @@
 -- Each row's flow stands where it should in the equations of the nodes. Assumes nothing.
-use Rattle.std.proofs.Common.{◌≡◌, ℕ, zero, suc, ◌+◌, ◌<◌, ◌≤◌, Bool, true, false, cond, eqb, ltb, List, [], ◌∷◌, ◌++◌, map, length, get_or, Some, None, Option, sym, refl, ap, ◌∙◌, ⊎_elim, append-nil, arith}
+use Rattle.std.proofs.Common.{◌≡◌, ℕ, zero, suc, ◌<◌, ◌≤◌, Bool, true, false, cond, eqb, ltb, List, [], ◌∷◌, ◌++◌, length, get_or, Some, None, sym, refl, ap, ◌∙◌, append-nil, arith}
 use Rattle.std.specs.Option.{option_to_list}
-use Rattle.std.proofs.lemmas.Bool.{and_parts, ltb-true, eq-eqb, ne_eqb, cases_eq}
+use Rattle.std.proofs.lemmas.Bool.{and_parts, ltb-true, eq-eqb, ne_eqb}
 use Rattle.netlist.specs.declared.rows.Row.{Row}
 use Rattle.netlist.specs.declared.rows.Row.TheVariants.{Branch, Earth}
 use Rattle.netlist.specs.declared.terms.Term.{Term}
 use Rattle.netlist.specs.Netlist.{Netlist}
-use Rattle.netlist.specs.Rows.{bit, hits, uses, flow_of, across_of}
+use Rattle.netlist.specs.Rows.{bit, hits, uses, flow_of}
 use Rattle.netlist.specs.Sound.{Sound, joins}
 use Rattle.netlist.proofs.Every.{every_at}
 use Rattle.equation.specs.Equations.{plus, minus, term_at, node_sum}
-use Rattle.equation.specs.Placed.{node_equation, naming, Absent, PlacedRow, Placed}
+use Rattle.equation.specs.Placed.{node_equation, naming, PlacedRow, Placed}
 use Rattle.equation.proofs.Counting.{equations_are}
 use Rattle.equation.proofs.Finding.{node_at}
 

@@ -1,5 +1,5 @@
 -- What every draft keeps to, read on its netlist. Assumes nothing.
-use Rattle.std.proofs.Common.{◌≡◌, map, sym, ◌∙◌, arith}
+use Rattle.std.proofs.Common.{◌∙◌, arith}
 use Rattle.std.proofs.lemmas.List.{length-map}
 use Rattle.netlist.specs.declared.domains.Domain.{Domain}
 use Rattle.netlist.specs.Domains.{domain_number}

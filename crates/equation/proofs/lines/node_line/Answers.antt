@@ -1,4 +1,4 @@
-use Rattle.std.proofs.Common.{◌≡◌, ℕ, ◌-◌, List, take, ap, ◌∙◌, arith, rules}
+use Rattle.std.proofs.Common.{◌≡◌, ◌-◌, List, take, ap, ◌∙◌, rules}
 use Rattle.netlist.specs.declared.terms.Term.{Term}
 use Rattle.spelling.specs.Lines.{line_text}
 use Rattle.spelling.specs.Rules.{answer_text}

@@ -1,4 +1,4 @@
-use Rattle.std.proofs.Common.{◌≡◌, ℕ, ◌-◌, List, take, ap, ◌∙◌}
+use Rattle.std.proofs.Common.{◌≡◌, ◌-◌, List, take, ap, ◌∙◌}
 use Rattle.netlist.specs.declared.terms.Term.{Term}
 use Rattle.spelling.specs.Lines.{line_text}
 use Rattle.spelling.specs.Rules.{answer_text}

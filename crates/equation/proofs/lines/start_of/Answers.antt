@@ -1,4 +1,4 @@
-use Rattle.std.proofs.Common.{◌+◌, sym, ◌∙◌, arith, rules}
+use Rattle.std.proofs.Common.{◌+◌, arith, rules}
 use Rattle.netlist.proofs.Cuts.{total_next, total_front}
 use Rattle.equation.proofs.lines.start_of.Goals as goal
 

@@ -1,12 +1,11 @@
 use Rattle.std.proofs.Common.{◌≡◌, ℕ, ◌+◌, ◌-◌, ◌<◌, ◌≤◌, List, [], length, get_or, take, drop, set, sym, ap, ◌∙◌, arith, rules}
 use Rattle.std.proofs.lemmas.List.{length-take-le, length-drop}
 use Rattle.netlist.specs.declared.terms.Term.{Term}
-use Rattle.netlist.specs.declared.spans.Span.{Span}
 use Rattle.netlist.specs.Pieces.{flat}
 use Rattle.netlist.specs.Pieces.{pieces}
 use Rattle.netlist.specs.Pieces.{total}
 use Rattle.netlist.proofs.Cuts.{length_pieces, flat_pieces, piece_at}
-use Rattle.equation.proofs.Putting.{start, room, one_more, whole}
+use Rattle.equation.proofs.Putting.{one_more, whole}
 use Rattle.equation.proofs.writing.put_laws.Goals as goal
 
 -- the law at i, and that it ends within the source

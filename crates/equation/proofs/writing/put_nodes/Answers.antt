@@ -1,7 +1,6 @@
-use Rattle.std.proofs.Common.{◌≡◌, ℕ, ◌+◌, ◌-◌, ◌<◌, ◌≤◌, List, [], length, get_or, take, set, sym, ap, ◌∙◌, arith}
+use Rattle.std.proofs.Common.{◌≡◌, ℕ, ◌+◌, ◌-◌, ◌<◌, List, [], length, get_or, set, ap, arith}
 use Rattle.std.proofs.lemmas.List.FromFn.{length-map-range_with_len, get_or-map-range_with_len}
 use Rattle.netlist.specs.declared.rows.Row.{Row}
-use Rattle.netlist.specs.declared.terms.Term.{Term}
 use Rattle.equation.specs.Equations.{node_sum, node_sums}
 use Rattle.equation.proofs.Putting.{start, room, one_more, whole}
 use Rattle.equation.proofs.writing.put_nodes.Goals as goal

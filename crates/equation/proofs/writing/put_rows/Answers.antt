@@ -1,7 +1,6 @@
-use Rattle.std.proofs.Common.{◌≡◌, ℕ, ◌+◌, ◌-◌, ◌<◌, ◌≤◌, List, [], map, length, get_or, set, sym, ap, ◌∙◌, arith}
+use Rattle.std.proofs.Common.{◌≡◌, ℕ, ◌+◌, ◌-◌, [], map, length, get_or, set, ap, arith}
 use Rattle.std.proofs.ByRecursion.{All-get_or}
 use Rattle.std.proofs.lemmas.List.{length-map, get_or-map}
-use Rattle.netlist.specs.declared.rows.Row.{Row}
 use Rattle.netlist.specs.declared.rows.Row.TheVariants.{Branch}
 use Rattle.equation.specs.Equations.{row_equation}
 use Rattle.equation.specs.Writing.{Numbered}

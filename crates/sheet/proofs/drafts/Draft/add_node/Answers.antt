@@ -1,7 +1,6 @@
 use Rattle.std.proofs.Common.{◌≡◌, ℕ, true, List, map, ap, ◌∙◌, arith}
 use Rattle.std.proofs.lemmas.List.{map_push}
 use Rattle.netlist.specs.Domains.{domain_number}
-use Rattle.netlist.specs.Netlist.{Netlist}
 use Rattle.netlist.specs.Sound.{every, joins}
 use Rattle.netlist.proofs.Joining.{all_join_node}
 use Rattle.sheet.specs.Held.{netlist_of}

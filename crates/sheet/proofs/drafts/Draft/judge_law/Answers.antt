@@ -1,4 +1,4 @@
-use Rattle.std.proofs.Common.{◌≡◌, ℕ, length, sym, ap, ◌∙◌}
+use Rattle.std.proofs.Common.{ℕ, length, sym, ap, ◌∙◌}
 use Rattle.netlist.specs.Rules.{first_of, table_law, room_law}
 use Rattle.netlist.proofs.Tables.{stopped_at, passed_over}
 use Rattle.sheet.specs.Held.{netlist_of}

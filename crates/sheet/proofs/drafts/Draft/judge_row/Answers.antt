@@ -1,4 +1,4 @@
-use Rattle.std.proofs.Common.{◌≡◌, Some, sym, ◌∙◌, arith}
+use Rattle.std.proofs.Common.{◌≡◌, Some, sym, arith}
 use Rattle.netlist.specs.Rules.{first_of, table_row, room_row}
 use Rattle.netlist.proofs.Tables.{stopped_at}
 use Rattle.netlist.proofs.Taking.{same_tests}

@@ -1,10 +1,9 @@
-use Rattle.std.proofs.Common.{eqb, ltb, List, [], ◌∷◌, ◌++◌, map, nat_abs, sym, ap, ◌∙◌, arith}
+use Rattle.std.proofs.Common.{List, [], ◌∷◌, ◌++◌, map, sym, ap, ◌∙◌, arith}
 use Rattle.std.proofs.lemmas.List.{append_assoc, map_more, take_all}
 use Rattle.std.proofs.lemmas.Bool.{not-true, or_parts, ltb-false}
 use Rattle.netlist.specs.declared.terms.RawTerm.{RawTerm}
 use Rattle.netlist.specs.declared.terms.Term.{Term}
 use Rattle.netlist.specs.Netlist.{term_of}
-use Rattle.netlist.specs.Rules.{no_coefficient}
 use Rattle.netlist.specs.Sound.{is_sized}
 use Rattle.netlist.proofs.Every.{every_at, every_map}
 use Rattle.sheet.proofs.laws.tables.append.Goals as goal
