@@ -1,6 +1,6 @@
 -- How many terms the equations have. Assumes nothing.
 use Rattle.std.proofs.Common.{◌≡◌, ℕ, zero, suc, ◌+◌, ◌<◌, ◌≤◌, Bool, true, false, cond, eqb, ltb, List, [], ◌∷◌, ◌++◌, map, length, Some, None, sym, refl, ap, ◌∙◌, ⊎_elim, arith}
-use Rattle.std.specs.List.{range_with_len, AllByRecursion as All}
+use Rattle.std.specs.List.{range_with_len, AllByRecursion}
 use Rattle.std.specs.Option.{option_to_list}
 use Rattle.std.proofs.lemmas.List.{length-append}
 use Rattle.std.proofs.lemmas.Bool.{and_parts, ltb-true, eq-eqb, ne_eqb, cases_eq, eqb-true}
@@ -118,7 +118,7 @@ numbered_row ds v (Branch flow across first second) l m h =
     (omega (arith, ltb-true _ _ p.0), omega (arith, ltb-true _ _ q.0))
 numbered_row ds v (Earth flow across node) l m h = omega (arith, ltb-true _ _ h)
 
-pub numbered : (ds : List ℕ) (v : ℕ) (rows : List Row) → length ds ≤ 1000 → v ≤ 4000 → every (joins ds) rows ≡ true → All (Numbered v) rows
+pub numbered : (ds : List ℕ) (v : ℕ) (rows : List Row) → length ds ≤ 1000 → v ≤ 4000 → every (joins ds) rows ≡ true → AllByRecursion (Numbered v) rows
 numbered ds v [] l m h = tt
 numbered ds v (row ∷ rows) l m h =
     let p = and_parts (joins ds row) (every (joins ds) rows) h in

@@ -1,6 +1,6 @@
 // All equations of a sheet, written one after another.
 ghost use Rattle.std.specs.Prelude.{◌≡◌, ◌+◌, ◌≤◌, map, length};
-ghost use Rattle.std.specs.List.{AllByRecursion as All};
+ghost use Rattle.std.specs.List.{AllByRecursion};
 ghost use Rattle.netlist.specs.Buffers.{over};
 ghost use Rattle.netlist.specs.Pieces.{total, pieces, flat};
 ghost use Rattle.equation.specs.Equations.{node_sums, row_equation, listed};
@@ -66,7 +66,7 @@ fn put_rows(
     at: usize,
     k: usize,
 ) -> usize
-    requires numbered { All (Numbered variables) rows.now }
+    requires numbered { AllByRecursion (Numbered variables) rows.now }
     requires terms_room { at + length (flat (map (row_equation variables) rows.now)) ≤ length terms.old }
     requires spans_room { k + length rows.now ≤ length spans.old }
     ensures { Put terms.old spans.old at k (map (row_equation variables) rows.now) terms.new spans.new result }
@@ -94,7 +94,7 @@ pub(crate) fn put_equations(
     spans: &mut [Span],
 )
     requires cut { total lengths.now ≡ length source.now }
-    requires numbered { All (Numbered variables) rows.now }
+    requires numbered { AllByRecursion (Numbered variables) rows.now }
     requires terms_room { length (flat (listed (pieces lengths.now source.now) rows.now nodes variables)) ≤ length terms.old }
     requires spans_room { length (listed (pieces lengths.now source.now) rows.now nodes variables) ≤ length spans.old }
     ensures terms { terms.new ≡ over terms.old (flat (listed (pieces lengths.now source.now) rows.now nodes variables)) }

@@ -1,6 +1,6 @@
 -- What a table says of a call that passes it. Assumes nothing.
 use Rattle.std.proofs.Common.{◌≡◌, ℕ, ◌+◌, ◌<◌, Bool, true, false, cond, eqb, List, [], ◌∷◌, ◌++◌, map, length, get_or, drop, Some, None, Option, sym, refl, ap, ◌∙◌, arith}
-use Rattle.std.specs.List.{AllByRecursion as All}
+use Rattle.std.specs.List.{AllByRecursion}
 use Rattle.std.proofs.lemmas.List.{at_drop_more}
 use Rattle.std.proofs.lemmas.Bool.{leb-false, lt-ltb, ltb-false, eqb-false, not-false, not_from_false, and_from, or_parts}
 use Rattle.netlist.specs.declared.refusals.Refusal.{Refusal}
@@ -18,7 +18,7 @@ passes_line true why rest h = let z : ◌≡◌ {A = ℕ} 0 1 = cc in absurd (om
 passes_line false why rest h = (refl, h)
 
 -- every test of the table failed
-pub passes : (lines : Tests) → first_of lines ≡ None → All (λ line. line.0 ≡ false) lines
+pub passes : (lines : Tests) → first_of lines ≡ None → AllByRecursion (λ line. line.0 ≡ false) lines
 passes [] h = tt
 passes (line ∷ rest) h =
     let p = passes_line line.0 line.1 (first_of rest) h in

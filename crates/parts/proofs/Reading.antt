@@ -14,7 +14,7 @@ use Rattle.assembly.specs.declared.plans.PlanRow.{PlanRow}
 use Rattle.assembly.specs.declared.plans.PlanTerm.{PlanTerm}
 use Rattle.assembly.specs.declared.plans.Size.{Size}
 use Rattle.assembly.specs.Meaning.{Meaning, void, plan, Bounded, Proper, is_void, size_in, size_of, domains_of, rows_of, laws_of, terms_of}
-use Rattle.assembly.proofs.Nth.{nth_map, nth_two, nth_get_or as nth-some, nth_past as nth-none}
+use Rattle.assembly.proofs.Nth.{nth_map, nth_two, nth_get_or as nth_some, nth_past as nth_none}
 use Rattle.parts.specs.declared.stored.Stored.{Stored}
 use Rattle.parts.specs.declared.tables.Tables.{Tables}
 use Rattle.parts.specs.Numbers.{domain_at}
@@ -129,10 +129,10 @@ module _ (s : Stored) (up : true ≡ stands s) where
 -- a term, from the terms of its law
 module _ (m : Meaning) (k t : ℕ) where
   pub term_here : (ts : List PlanTerm) (d : PlanTerm) → Some ts ≡ slice_get (laws_of m) k → t < length ts → Some (get_or ts t d) ≡ slice_get (terms_of m k) t
-  term_here ts d e within = sym (ap (λ (xs : List PlanTerm). slice_get xs t) (nth-some (laws_of m) k [] ts (sym e)) ∙ slice_get-get_or ts t d within)
+  term_here ts d e within = sym (ap (λ (xs : List PlanTerm). slice_get xs t) (nth_some (laws_of m) k [] ts (sym e)) ∙ slice_get-get_or ts t d within)
 
   pub term_past : (ts : List PlanTerm) → Some ts ≡ slice_get (laws_of m) k → length ts ≤ t → None ≡ slice_get (terms_of m k) t
-  term_past ts e past = sym (ap (λ (xs : List PlanTerm). slice_get xs t) (nth-some (laws_of m) k [] ts (sym e)) ∙ slice_get_past ts t past)
+  term_past ts e past = sym (ap (λ (xs : List PlanTerm). slice_get xs t) (nth_some (laws_of m) k [] ts (sym e)) ∙ slice_get_past ts t past)
 
   pub no_term : None ≡ slice_get (laws_of m) k → None ≡ slice_get (terms_of m k) t
-  no_term e = sym (ap (λ (xs : List PlanTerm). slice_get xs t) (nth-none (laws_of m) k [] (sym e)))
+  no_term e = sym (ap (λ (xs : List PlanTerm). slice_get xs t) (nth_none (laws_of m) k [] (sym e)))

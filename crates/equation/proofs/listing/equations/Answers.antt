@@ -1,5 +1,5 @@
 use Rattle.std.proofs.Common.{◌≡◌, ℕ, ◌<◌, ◌≤◌, ◌⊎◌, List, length, Ok, Option, sym, ap, ◌∙◌, subst, inl, inr, ⊎_elim, arith}
-use Rattle.std.specs.List.{AllByRecursion as All}
+use Rattle.std.specs.List.{AllByRecursion}
 use Rattle.netlist.specs.declared.refusals.Refusal.{Refusal}
 use Rattle.netlist.specs.declared.rows.Row.{Row}
 use Rattle.netlist.specs.declared.terms.Term.{Term}
@@ -44,7 +44,7 @@ put_equations-requires c =
     record {
       cut = c.laws-laws.ensures.cut;
       numbered =
-          subst (λ (p : ℕ × List Row). All (Numbered p.0) p.1) (λ i. (sym c.variables.ensures i, sym c.rows-rows.ensures.value i))
+          subst (λ (p : ℕ × List Row). AllByRecursion (Numbered p.0) p.1) (λ i. (sym c.variables.ensures i, sym c.rows-rows.ensures.value i))
           (numbered b.domains b.variables b.rows s.within.nodes s.within.variables s.joined);
       terms_room = omega (arith, ap (λ (es : List (List Term)). length (flat es)) is);
       spans_room = omega (arith, ap (λ (es : List (List Term)). length es) is);
