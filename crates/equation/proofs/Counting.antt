@@ -9,6 +9,7 @@ use Rattle.netlist.specs.declared.terms.Term.{Term}
 use Rattle.netlist.specs.Netlist.{Netlist, term_count}
 use Rattle.netlist.specs.Pieces.{flat}
 use Rattle.netlist.specs.Sound.{Sound}
+use Rattle.equation.specs.declared.listing.Listing.{Listing}
 use Rattle.equation.specs.Equations.{node_sum, node_sums, row_equation, listed}
 use Rattle.equation.specs.Listing.{listing_of, judge_equations}
 use Rattle.equation.specs.Writing.{row_sizes}
@@ -70,3 +71,7 @@ module _ (b : Netlist) (m k : ℕ) where
 
   pub enough : (listing_of b).terms ≤ m → (listing_of b).equations ≤ k → judge_equations b m k ≡ None
   enough p q = cond-false _ _ _ (or_from _ _ (le-ltb m (listing_of b).terms p) (le-ltb k (listing_of b).equations q))
+
+-- two that agree in both counts are one
+pub listing_same : (x y : Listing) → x.terms ≡ y.terms → x.equations ≡ y.equations → x ≡ y
+listing_same x y same_terms same_equations = λ i. record { terms = same_terms i; equations = same_equations i }

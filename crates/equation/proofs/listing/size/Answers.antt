@@ -1,8 +1,7 @@
-use Rattle.std.proofs.Common.{◌≡◌, ◌+◌, length, ap, ◌∙◌, arith}
+use Rattle.std.proofs.Common.{◌≡◌, length, ap, ◌∙◌, arith}
 use Rattle.sheet.specs.Held.{netlist_of_sheet}
-use Rattle.equation.specs.Listing.{listing_of}
 use Rattle.equation.specs.Writing.{row_sizes}
-use Rattle.equation.proofs.Counting.{terms_are, equations_are}
+use Rattle.equation.proofs.Counting.{terms_are, equations_are, listing_same}
 use Rattle.equation.proofs.Viewing.{law_count, law_terms}
 use Rattle.equation.proofs.listing.size.Goals as goal
 
@@ -16,6 +15,4 @@ returns c =
     let sizes = law_terms lengths terms b.laws c.laws-laws.ensures.value c.laws-laws.ensures.cut in
     let rows : c.row_sizes.result ≡ row_sizes b.rows = c.row_sizes.ensures.value ∙ ap row_sizes c.rows-rows.ensures.value in
     let row_count = ap length c.rows-rows.ensures.value in
-    let all-terms : length terms + c.row_sizes.result ≡ (listing_of b).terms = omega (arith, terms_are b s) in
-    let all : length lengths + c.nodes.result + length c.rows-rows.result.now ≡ (listing_of b).equations = omega (arith, equations_are b s) in
-    λ i. record { terms = all-terms i; equations = all i }
+    listing_same _ _ (omega (arith, terms_are b s)) (omega (arith, equations_are b s))
