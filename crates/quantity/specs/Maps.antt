@@ -3,7 +3,7 @@ use Rattle.std.specs.Prelude.{◌≡◌, List, map, ℤ}
 use Rattle.quantity.specs.Group.{Group}
 use Rattle.quantity.specs.Totals.{total}
 
--- h takes each operation of 𝓛 to that of 𝓗, and so the sum of a list to the sum of what it makes of the list
+-- h takes each operation of 𝓖 to that of 𝓗, and so the sum of a list to the sum of what it makes of the list
 pub record Respects {K L : Type 0} (𝓖 : Group K) (𝓗 : Group L) (h : K → L) : Type 0 where
   pub zero : h 𝓖.zero ≡ 𝓗.zero
   pub sum : (x y : K) → h (𝓖.sum x y) ≡ 𝓗.sum (h x) (h y)
