@@ -4,9 +4,10 @@
 usage: python3 tools/respell.py          at the top: rewrites the files of crates/
        python3 tools/respell.py --look   at the top: writes nothing, and prints names that would fall together
 
-A word is in snake case, and a fact, which is a type, in upper camel case. Names that the check makes, as those of
-goals and steps, and names of src/ keep their spelling, and so do texts and comments. Pages get the new words where
-they set the old ones as code.
+A word that specs/ or proofs/ declare is in snake case, and a fact, which is a type, in upper camel case. Goals that
+the check makes and names of src/ keep their spelling, and so do comments, and what is bound inside a definition. It
+goes by whole words: a step that the check names like a declared word is turned too. Pages get the new words where
+they set the old ones as code within a line.
 """
 
 import os
