@@ -9,7 +9,7 @@ use Rattle.commands.specs.Spelling.{term_of, terms_of, no_term, slotted}
 use Rattle.commands.specs.Steps.{ReadsLaw, term_kinds}
 
 -- m groups of fields are left at t, after those of the terms `done`
-pub record Left (gs : List Bytes) (n : ℕ) (done : List RawTerm) (t : Bytes) : Type 0 where
+pub record Left (gs : List Bytes) (n : ℕ) (done : List (RawTerm ℕ)) (t : Bytes) : Type 0 where
   pub groups : ℕ
   pub fields : List Bytes
   pub count : groups + length done ≡ n
@@ -18,8 +18,8 @@ pub record Left (gs : List Bytes) (n : ℕ) (done : List RawTerm) (t : Bytes) : 
   pub terms : terms_of gs ≡ done ++ terms_of fields
 
 -- of the rest s, so many terms are in their slots, and t is left
-pub record Filled (s : Bytes) (count : ℕ) (slots : List RawTerm) (t : Bytes) : Type 0 where
-  pub done : List RawTerm
+pub record Filled (s : Bytes) (count : ℕ) (slots : List (RawTerm ℕ)) (t : Bytes) : Type 0 where
+  pub done : List (RawTerm ℕ)
   pub size : length done ≡ count
   pub stored : slots ≡ done ++ replicate (8 - count) no_term
   pub left : (n : ℕ) (gs : List Bytes) → n ≤ 8 → s ≡ row gs → Matches (repeated n term_kinds) gs → Left gs n done t
@@ -33,11 +33,11 @@ filled_none s = record {
 }
 
 -- what a turn reads
-abbrev pub Turn : Bytes → RawTerm → Bytes → Type 0
+abbrev pub Turn : Bytes → RawTerm ℕ → Bytes → Type 0
 Turn t v u =
     (a b c : Bytes) (gs : List Bytes) → t ≡ row (a ∷ b ∷ c ∷ gs) → Text Coefficient a → Text Number b → Text Number c → (v ≡ term_of a b c) × (u ≡ row gs)
 
-one_more : (gs : List Bytes) (n : ℕ) (done : List RawTerm) (t u : Bytes) (v : RawTerm) → Turn t v u → (t ≡ [] → ⊥) → Left gs n done t → Left gs n (done ++ v ∷ []) u
+one_more : (gs : List Bytes) (n : ℕ) (done : List (RawTerm ℕ)) (t u : Bytes) (v : RawTerm ℕ) → Turn t v u → (t ≡ [] → ⊥) → Left gs n done t → Left gs n (done ++ v ∷ []) u
 one_more gs n done t u v turn some l = go l.groups l.fields l.count l.here l.kinds l.terms
   where
     go : (m : ℕ) (fs : List Bytes) → m + length done ≡ n → t ≡ row fs → Matches (repeated m term_kinds) fs → terms_of gs ≡ done ++ terms_of fs → Left gs n (done ++ v ∷ []) u
@@ -55,10 +55,10 @@ one_more gs n done t u v turn some l = go l.groups l.fields l.count l.here l.kin
           count = omega arith;
           here = got.1;
           kinds = kinds.1.1.1;
-          terms = terms ∙ ap (λ (x : RawTerm). done ++ x ∷ terms_of fs) (sym got.0) ∙ sym (append_assoc done (v ∷ []) (terms_of fs));
+          terms = terms ∙ ap (λ (x : RawTerm ℕ). done ++ x ∷ terms_of fs) (sym got.0) ∙ sym (append_assoc done (v ∷ []) (terms_of fs));
         }
 
-pub filled_more : (s : Bytes) (count : ℕ) (slots : List RawTerm) (t : Bytes) (v : RawTerm) (u : Bytes) → count < 8 → Turn t v u → (t ≡ [] → ⊥) → Filled s count slots t → Filled s (count + 1) (set slots count v) u
+pub filled_more : (s : Bytes) (count : ℕ) (slots : List (RawTerm ℕ)) (t : Bytes) (v : RawTerm ℕ) (u : Bytes) → count < 8 → Turn t v u → (t ≡ [] → ⊥) → Filled s count slots t → Filled s (count + 1) (set slots count v) u
 filled_more s count slots t v u room turn some f =
     let rest : 8 - count ≡ suc (8 - (count + 1)) = omega arith in
     let empty = replicate (8 - (count + 1)) no_term in
@@ -68,23 +68,23 @@ filled_more s count slots t v u room turn some f =
     record {
       done = f.done ++ v ∷ [];
       size = omega arith;
-      stored = ap (λ (x : List RawTerm). set x count v) open-slot ∙ set_at f.done no_term empty v count size ∙ sym (append_assoc f.done (v ∷ []) empty);
+      stored = ap (λ (x : List (RawTerm ℕ)). set x count v) open-slot ∙ set_at f.done no_term empty v count size ∙ sym (append_assoc f.done (v ∷ []) empty);
       left = λ n gs few here kinds. one_more gs n f.done t u v turn some (f.left n gs few here kinds);
     }
 
-slots_are : (count : ℕ) (slots done : List RawTerm) (ts : List RawTerm) → length done ≡ count → slots ≡ done ++ replicate (8 - count) no_term → ts ≡ done → ◌≡◌ {A = Terms} (record { slots = slots; count = count }) (slotted ts)
+slots_are : (count : ℕ) (slots done : List (RawTerm ℕ)) (ts : List (RawTerm ℕ)) → length done ≡ count → slots ≡ done ++ replicate (8 - count) no_term → ts ≡ done → ◌≡◌ {A = Terms} (record { slots = slots; count = count }) (slotted ts)
 slots_are count slots done ts size stored same =
     let n : count ≡ length ts = sym size ∙ ap length (sym same) in
-    let xs : slots ≡ ts ++ replicate (8 - length ts) no_term = stored ∙ ap (λ (x : List RawTerm). x ++ replicate (8 - count) no_term) (sym same) ∙ ap (λ k. ts ++ replicate (8 - k) no_term) n in
+    let xs : slots ≡ ts ++ replicate (8 - length ts) no_term = stored ∙ ap (λ (x : List (RawTerm ℕ)). x ++ replicate (8 - count) no_term) (sym same) ∙ ap (λ k. ts ++ replicate (8 - k) no_term) n in
     cc
 
 -- no field is left where all groups are read
-all_read : (fs : List Bytes) (done : List RawTerm) → Matches (repeated 0 term_kinds) fs → done ++ terms_of fs ≡ done
+all_read : (fs : List Bytes) (done : List (RawTerm ℕ)) → Matches (repeated 0 term_kinds) fs → done ++ terms_of fs ≡ done
 all_read [] done h = append-nil done
 all_read (f ∷ fs) done h = absurd h
 
 -- the reading stops where no term is left
-pub filled_end : (s : Bytes) (count : ℕ) (slots : List RawTerm) (t : Bytes) → ((a b c : Bytes) (gs : List Bytes) → t ≡ row (a ∷ b ∷ c ∷ gs) → Text Coefficient a → Text Number b → Text Number c → ⊥) → Filled s count slots t → ReadsLaw s (record { slots = slots; count = count })
+pub filled_end : (s : Bytes) (count : ℕ) (slots : List (RawTerm ℕ)) (t : Bytes) → ((a b c : Bytes) (gs : List Bytes) → t ≡ row (a ∷ b ∷ c ∷ gs) → Text Coefficient a → Text Number b → Text Number c → ⊥) → Filled s count slots t → ReadsLaw s (record { slots = slots; count = count })
 filled_end s count slots t none f n gs few here kinds = slots_are count slots f.done (terms_of gs) f.size f.stored (go l.groups l.fields l.here l.kinds l.terms)
   where
     l : Left gs n f.done t
@@ -98,7 +98,7 @@ filled_end s count slots t none f n gs few here kinds = slots_are count slots f.
     go (suc m) (a ∷ b ∷ c ∷ fs) at h e = absurd (none a b c fs at h.0 h.1.0 h.1.1.0)
 
 -- or where the slots are full
-pub filled_full : (s : Bytes) (slots : List RawTerm) (t : Bytes) → Filled s 8 slots t → ReadsLaw s (record { slots = slots; count = 8 })
+pub filled_full : (s : Bytes) (slots : List (RawTerm ℕ)) (t : Bytes) → Filled s 8 slots t → ReadsLaw s (record { slots = slots; count = 8 })
 filled_full s slots t f n gs few here kinds = slots_are 8 slots f.done (terms_of gs) f.size f.stored (go l.groups l.fields l.count l.kinds l.terms)
   where
     l : Left gs n f.done t

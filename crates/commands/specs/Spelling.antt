@@ -19,21 +19,21 @@ number fs k = decimal (slice_index_or fs k [])
 abbrev pub coefficient : List Bytes → ℕ → ℤ
 coefficient fs k = signed (slice_index_or fs k [])
 
-abbrev pub term_of : Bytes → Bytes → Bytes → RawTerm
+abbrev pub term_of : Bytes → Bytes → Bytes → RawTerm ℕ
 term_of c o v = record { coefficient = signed c; order = decimal o; variable = decimal v }
 
 -- a term of each three fields
-abbrev pub terms_of : List Bytes → List RawTerm
+abbrev pub terms_of : List Bytes → List (RawTerm ℕ)
 terms_of [] = []
 terms_of (c ∷ []) = []
 terms_of (c ∷ o ∷ []) = []
 terms_of (c ∷ o ∷ v ∷ fs) = term_of c o v ∷ terms_of fs
 
-abbrev pub no_term : RawTerm
+abbrev pub no_term : RawTerm ℕ
 no_term = record { coefficient = pos 0; order = 0; variable = 0 }
 
 -- the terms in the first of eight slots
-abbrev pub slotted : List RawTerm → Terms
+abbrev pub slotted : List (RawTerm ℕ) → Terms
 slotted ts = record { slots = ts ++ replicate (8 - length ts) no_term; count = length ts }
 
 abbrev pub spelled : ℕ → List Bytes → Command

@@ -20,7 +20,7 @@ pub length_flat : {X : Type 0} (xss : List (List X)) → length (flat xss) ≡ t
 length_flat [] = refl
 length_flat (xs ∷ xss) = omega (arith, length-append xs (flat xss), length_flat xss)
 
-module _ (laws : List (List Term)) (rows : List Row) (nodes variables : ℕ) where
+module _ (laws : List (List Term)) (rows : List (Row ℕ)) (nodes variables : ℕ) where
   pub length_listed : length (listed laws rows nodes variables) ≡ length laws + nodes + length rows
   length_listed =
       let sums = node_sums rows nodes in

@@ -8,7 +8,7 @@ use Rattle.netlist.specs.declared.terms.Term.{Term}
 use Rattle.netlist.specs.Buffers.{written}
 use Rattle.equation.specs.Equations.{term_at, node_sum, node_sums, row_equation, listed}
 
-module _ (laws : List (List Term)) (rows : List Row) (nodes variables : ℕ) where
+module _ (laws : List (List Term)) (rows : List (Row ℕ)) (nodes variables : ℕ) where
   pub law_at : (k : ℕ) → k < length laws → get_or (listed laws rows nodes variables) k [] ≡ get_or laws k []
   law_at k h = get_or_append_left laws (node_sums rows nodes ++ map (row_equation variables) rows) [] k h
 
@@ -21,7 +21,7 @@ module _ (laws : List (List Term)) (rows : List Row) (nodes variables : ℕ) whe
       ∙ get_or_append_left sums own [] n (omega arith)
       ∙ get_or-map-range_with_len (node_sum rows) 0 nodes n n [] h (omega arith)
 
-  pub row_at : (i : ℕ) (d : Row) → i < length rows → get_or (listed laws rows nodes variables) (length laws + (nodes + i)) [] ≡ row_equation variables (get_or rows i d)
+  pub row_at : (i : ℕ) (d : Row ℕ) → i < length rows → get_or (listed laws rows nodes variables) (length laws + (nodes + i)) [] ≡ row_equation variables (get_or rows i d)
   row_at i d h =
       let sums = node_sums rows nodes in
       let own = map (row_equation variables) rows in
@@ -36,7 +36,7 @@ one_term : (o : Option Term) → length (option_to_list o) ≤ 1
 one_term None = omega arith
 one_term (Some t) = omega arith
 
-pub few_terms : (rows : List Row) (n : ℕ) → length (node_sum rows n) ≤ length rows
+pub few_terms : (rows : List (Row ℕ)) (n : ℕ) → length (node_sum rows n) ≤ length rows
 few_terms [] n = omega arith
 few_terms (row ∷ rows) n = omega (arith, length-append (option_to_list (term_at n row)) (node_sum rows n), one_term (term_at n row), few_terms rows n)
 

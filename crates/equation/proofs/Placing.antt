@@ -46,7 +46,7 @@ earth_other : (p : Bool) (f v : ℕ) → (f ≡ v → ⊥) → naming v (option_
 earth_other true f v h = other (plus f) v h
 earth_other false f v h = refl
 
-row_other : (row : Row) (n v : ℕ) → (flow_of row ≡ v → ⊥) → naming v (option_to_list (term_at n row)) ≡ []
+row_other : (row : Row ℕ) (n v : ℕ) → (flow_of row ≡ v → ⊥) → naming v (option_to_list (term_at n row)) ≡ []
 row_other (Branch flow across first second) n v h = branch_other (eqb first second) (eqb first n) (eqb second n) flow v h
 row_other (Earth flow across node) n v h = earth_other (eqb node n) flow v h
 
@@ -60,33 +60,33 @@ earth_itself : (p : Bool) (f : ℕ) → naming f (option_to_list (cond p (Some (
 earth_itself true f = itself (plus f) f refl
 earth_itself false f = refl
 
-row_itself : (row : Row) (n : ℕ) → naming (flow_of row) (option_to_list (term_at n row)) ≡ option_to_list (term_at n row)
+row_itself : (row : Row ℕ) (n : ℕ) → naming (flow_of row) (option_to_list (term_at n row)) ≡ option_to_list (term_at n row)
 row_itself (Branch flow across first second) n = branch_itself (eqb first second) (eqb first n) (eqb second n) flow
 row_itself (Earth flow across node) n = earth_itself (eqb node n) flow
 
 -- what is no row's flow stands in no sum
-sum_other : (rows : List Row) (v n : ℕ) → ((k : ℕ) (d : Row) → k < length rows → flow_of (get_or rows k d) ≡ v → ⊥) → naming v (node_sum rows n) ≡ []
+sum_other : (rows : List (Row ℕ)) (v n : ℕ) → ((k : ℕ) (d : Row ℕ) → k < length rows → flow_of (get_or rows k d) ≡ v → ⊥) → naming v (node_sum rows n) ≡ []
 sum_other [] v n h = refl
 sum_other (row ∷ rows) v n h =
     naming_append v (option_to_list (term_at n row)) (node_sum rows n)
     ∙ (λ i. row_other row n v (h 0 row (omega arith)) i ++ sum_other rows v n (λ k d l. h (suc k) d (omega arith)) i)
 
 -- a row has its flow
-flow_hit : (row : Row) (v : ℕ) → flow_of row ≡ v → 1 ≤ hits row v
+flow_hit : (row : Row ℕ) (v : ℕ) → flow_of row ≡ v → 1 ≤ hits row v
 flow_hit row v e = omega (arith, ap bit (eq-eqb (flow_of row) v e))
 
-unused : (rows : List Row) (v : ℕ) → uses rows v ≡ 0 → (k : ℕ) (d : Row) → k < length rows → flow_of (get_or rows k d) ≡ v → ⊥
+unused : (rows : List (Row ℕ)) (v : ℕ) → uses rows v ≡ 0 → (k : ℕ) (d : Row ℕ) → k < length rows → flow_of (get_or rows k d) ≡ v → ⊥
 unused [] v h k d l e = omega arith
 unused (row ∷ rows) v h zero d l e = omega (arith, flow_hit row v e)
 unused (row ∷ rows) v h (suc k) d l e = unused rows v (omega arith) k d (omega arith) e
 
-used : (rows : List Row) (k : ℕ) (d : Row) → k < length rows → 1 ≤ uses rows (flow_of (get_or rows k d))
+used : (rows : List (Row ℕ)) (k : ℕ) (d : Row ℕ) → k < length rows → 1 ≤ uses rows (flow_of (get_or rows k d))
 used [] k d l = absurd (omega arith)
 used (row ∷ rows) zero d l = omega (arith, flow_hit row (flow_of row) refl)
 used (row ∷ rows) (suc k) d l = omega (arith, used rows k d (omega arith))
 
 -- where no variable is taken twice, the terms that name a row's flow are the row's own
-sum_itself : (rows : List Row) → ((v : ℕ) → uses rows v ≤ 1) → (k : ℕ) (d : Row) (n : ℕ) → k < length rows → naming (flow_of (get_or rows k d)) (node_sum rows n) ≡ option_to_list (term_at n (get_or rows k d))
+sum_itself : (rows : List (Row ℕ)) → ((v : ℕ) → uses rows v ≤ 1) → (k : ℕ) (d : Row ℕ) (n : ℕ) → k < length rows → naming (flow_of (get_or rows k d)) (node_sum rows n) ≡ option_to_list (term_at n (get_or rows k d))
 sum_itself [] once k d n l = absurd (omega arith)
 sum_itself (row ∷ rows) once zero d n l =
     let v = flow_of row in
@@ -122,7 +122,7 @@ module _ (flow across first second : ℕ) where
     at_neither h k = past_first h ∙ ap (λ (p : Bool). option_to_list (cond p (Some (minus flow)) None)) (ne_eqb second n k)
 
 -- from the terms of its flow to the places of a row
-placed_row : (b : Netlist) (row : Row) → joins b.domains row ≡ true → ((n : ℕ) → n < length b.domains → naming (flow_of row) (node_equation b n) ≡ option_to_list (term_at n row)) → PlacedRow b row
+placed_row : (b : Netlist) (row : Row ℕ) → joins b.domains row ≡ true → ((n : ℕ) → n < length b.domains → naming (flow_of row) (node_equation b n) ≡ option_to_list (term_at n row)) → PlacedRow b row
 placed_row b (Branch flow across first second) j own =
     let p = and_parts (ltb first (length b.domains)) _ j in
     let q = and_parts (ltb second (length b.domains)) _ p.1 in (

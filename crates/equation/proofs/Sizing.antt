@@ -31,7 +31,7 @@ hits_within p a (suc n) l h =
     (cases_eq p a)
 
 -- how many terms a row adds at the n nodes from a on
-abbrev ends_from : Row → ℕ → ℕ → ℕ
+abbrev ends_from : Row ℕ → ℕ → ℕ → ℕ
 ends_from row a zero = 0
 ends_from row a (suc n) = length (option_to_list (term_at a row)) + ends_from row (a + 1) n
 
@@ -67,7 +67,7 @@ earth_from flow across node a zero = refl
 earth_from flow across node a (suc n) = omega (arith, one_end (eqb node a) (plus flow), earth_from flow across node (a + 1) n)
 
 -- a row adds to its nodes and has an equation of its own
-row_adds : (ds : List ℕ) (v : ℕ) (row : Row) → joins ds row ≡ true → ends_from row 0 (length ds) + length (row_equation v row) ≡ row_size row
+row_adds : (ds : List ℕ) (v : ℕ) (row : Row ℕ) → joins ds row ≡ true → ends_from row 0 (length ds) + length (row_equation v row) ≡ row_size row
 row_adds ds v (Branch flow across first second) h =
     let p = and_parts (ltb first (length ds)) _ h in
     let q = and_parts (ltb second (length ds)) _ p.1 in
@@ -85,7 +85,7 @@ sums_none : (a n : ℕ) → length (flat (map (node_sum []) (range_with_len a n)
 sums_none a zero = refl
 sums_none a (suc n) = sums_none (a + 1) n
 
-sums_row : (row : Row) (rows : List Row) (a n : ℕ) → length (flat (map (node_sum (row ∷ rows)) (range_with_len a n))) ≡ ends_from row a n + length (flat (map (node_sum rows) (range_with_len a n)))
+sums_row : (row : Row ℕ) (rows : List (Row ℕ)) (a n : ℕ) → length (flat (map (node_sum (row ∷ rows)) (range_with_len a n))) ≡ ends_from row a n + length (flat (map (node_sum rows) (range_with_len a n)))
 sums_row row rows a zero = refl
 sums_row row rows a (suc n) =
     let here = option_to_list (term_at a row) in
@@ -98,7 +98,7 @@ sums_row row rows a (suc n) =
       length-append rest (flat (map (node_sum rows) (range_with_len (a + 1) n))),
     )
 
-pub sizes_are : (ds : List ℕ) (v : ℕ) (rows : List Row) → every (joins ds) rows ≡ true → length (flat (node_sums rows (length ds))) + length (flat (map (row_equation v) rows)) ≡ row_sizes rows
+pub sizes_are : (ds : List ℕ) (v : ℕ) (rows : List (Row ℕ)) → every (joins ds) rows ≡ true → length (flat (node_sums rows (length ds))) + length (flat (map (row_equation v) rows)) ≡ row_sizes rows
 sizes_are ds v [] h = omega (arith, sums_none 0 (length ds))
 sizes_are ds v (row ∷ rows) h =
     let p = and_parts (joins ds row) (every (joins ds) rows) h in
@@ -111,14 +111,14 @@ sizes_are ds v (row ∷ rows) h =
     )
 
 -- the potentials have numbers that fit
-numbered_row : (ds : List ℕ) (v : ℕ) (row : Row) → length ds ≤ 1000 → v ≤ 4000 → joins ds row ≡ true → Numbered v row
+numbered_row : (ds : List ℕ) (v : ℕ) (row : Row ℕ) → length ds ≤ 1000 → v ≤ 4000 → joins ds row ≡ true → Numbered v row
 numbered_row ds v (Branch flow across first second) l m h =
     let p = and_parts (ltb first (length ds)) _ h in
     let q = and_parts (ltb second (length ds)) _ p.1 in
     (omega (arith, ltb-true _ _ p.0), omega (arith, ltb-true _ _ q.0))
 numbered_row ds v (Earth flow across node) l m h = omega (arith, ltb-true _ _ h)
 
-pub numbered : (ds : List ℕ) (v : ℕ) (rows : List Row) → length ds ≤ 1000 → v ≤ 4000 → every (joins ds) rows ≡ true → AllByRecursion (Numbered v) rows
+pub numbered : (ds : List ℕ) (v : ℕ) (rows : List (Row ℕ)) → length ds ≤ 1000 → v ≤ 4000 → every (joins ds) rows ≡ true → AllByRecursion (Numbered v) rows
 numbered ds v [] l m h = tt
 numbered ds v (row ∷ rows) l m h =
     let p = and_parts (joins ds row) (every (joins ds) rows) h in

@@ -8,7 +8,7 @@ use Rattle.netlist.proofs.Joined.{joined_take_le, joined_next}
 use Rattle.equation.specs.Equations.{term_at, node_sum}
 
 -- a row that adds a term, or none
-module _ (rows : List Row) (n i : ℕ) (d : Row) (within : i < length rows) where
+module _ (rows : List (Row ℕ)) (n i : ℕ) (d : Row ℕ) (within : i < length rows) where
   pub sum_more : (t : Term) → term_at n (get_or rows i d) ≡ Some t → node_sum (take (i + 1) rows) n ≡ node_sum (take i rows) n ++ t ∷ []
   sum_more t h = joined_next (λ row. option_to_list (term_at n row)) rows i d within ∙ ap (λ (o : Option Term). node_sum (take i rows) n ++ option_to_list o) h
 

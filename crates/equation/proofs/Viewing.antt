@@ -22,7 +22,7 @@ module _ (lengths : List ℕ) (terms : List Term) (laws : List (List Term)) (is 
   law_terms = sym (count_pieces lengths terms cut) ∙ ap term_count is
 
 -- The equations, listed from laws, rows and two counts that are the sheet's.
-module _ (b : Netlist) (laws : List (List Term)) (rows : List Row) (nodes variables : ℕ) (same_laws : laws ≡ b.laws) (same_rows : rows ≡ b.rows) (same_nodes : nodes ≡ length b.domains) (same_variables : variables ≡ b.variables) where
+module _ (b : Netlist) (laws : List (List Term)) (rows : List (Row ℕ)) (nodes variables : ℕ) (same_laws : laws ≡ b.laws) (same_rows : rows ≡ b.rows) (same_nodes : nodes ≡ length b.domains) (same_variables : variables ≡ b.variables) where
   pub listed_same : listed laws rows nodes variables ≡ equations_of b
   listed_same = λ i. listed (same_laws i) (same_rows i) (same_nodes i) (same_variables i)
 
@@ -41,7 +41,7 @@ module _ (b : Netlist) (laws : List (List Term)) (rows : List Row) (nodes variab
   spans_hold new old h = h ∙ ap (λ (es : List (List Term)). over old (spans_from 0 es)) listed_same
 
 -- the potentials of the sheet's rows have numbers that fit
-pub rows_numbered : (b : Netlist) (rows : List Row) (variables : ℕ) → Sound b → rows ≡ b.rows → variables ≡ b.variables → AllByRecursion (Numbered variables) rows
+pub rows_numbered : (b : Netlist) (rows : List (Row ℕ)) (variables : ℕ) → Sound b → rows ≡ b.rows → variables ≡ b.variables → AllByRecursion (Numbered variables) rows
 rows_numbered b rows variables s same_rows same_variables =
-    subst (λ (p : ℕ × List Row). AllByRecursion (Numbered p.0) p.1) (λ i. (sym same_variables i, sym same_rows i))
+    subst (λ (p : ℕ × List (Row ℕ)). AllByRecursion (Numbered p.0) p.1) (λ i. (sym same_variables i, sym same_rows i))
     (numbered b.domains b.variables b.rows s.within.nodes s.within.variables s.joined)

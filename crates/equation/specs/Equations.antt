@@ -17,28 +17,28 @@ minus v = record { coefficient = negsuc 0; order = Value; variable = v }
 
 -- What a row adds to the sum of the flows at node n: a branch's first node gets +1, its second -1, an
 -- earth's node +1. A branch with both ends on one node adds nothing.
-abbrev pub term_at : ℕ → Row → Option Term
+abbrev pub term_at : ℕ → Row ℕ → Option Term
 term_at n (Branch flow across first second) =
     cond (first == second) None (cond (first == n) (Some (plus flow)) (cond (second == n) (Some (minus flow)) None))
 term_at n (Earth flow across node) = cond (node == n) (Some (plus flow)) None
 
 -- the sum of the flows at node n, in row order
-abbrev pub node_sum : List Row → ℕ → List Term
+abbrev pub node_sum : List (Row ℕ) → ℕ → List Term
 node_sum rows n = flat_map (λ row. option_to_list (term_at n row)) rows
 
 -- the sums at nodes 0 to n - 1
-abbrev pub node_sums : List Row → ℕ → List (List Term)
+abbrev pub node_sums : List (Row ℕ) → ℕ → List (List Term)
 node_sums rows n = map (node_sum rows) (range_with_len 0 n)
 
 -- Across, minus the potential of the first node, plus that of the second, of which an earth has none.
 -- The potential of node n is numbered variable count plus n.
-abbrev pub row_equation : ℕ → Row → List Term
+abbrev pub row_equation : ℕ → Row ℕ → List Term
 row_equation variables (Branch flow across first second) =
     plus across ∷ minus (variables + first) ∷ plus (variables + second) ∷ []
 row_equation variables (Earth flow across node) = plus across ∷ minus (variables + node) ∷ []
 
 -- the laws as given, then the sum at each node, then the equation of each row
-abbrev pub listed : List (List Term) → List Row → ℕ → ℕ → List (List Term)
+abbrev pub listed : List (List Term) → List (Row ℕ) → ℕ → ℕ → List (List Term)
 listed laws rows nodes variables = laws ++ (node_sums rows nodes ++ map (row_equation variables) rows)
 
 abbrev pub equations_of : Netlist → List (List Term)

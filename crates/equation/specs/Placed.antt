@@ -33,7 +33,7 @@ abbrev pub Absent : Netlist → ℕ → Type 0
 Absent b v = (n : ℕ) → n < length b.domains → naming v (node_equation b n) ≡ []
 
 -- a branch with both ends on one node stands nowhere
-abbrev pub PlacedRow : Netlist → Row → Type 0
+abbrev pub PlacedRow : Netlist → Row ℕ → Type 0
 PlacedRow b (Branch flow across first second) =
     (first ≡ second → Absent b flow) × ((first ≢ second) → Between b flow first second)
 PlacedRow b (Earth flow across node) = Earthed b flow node
@@ -42,6 +42,6 @@ pub record Placed (b : Netlist) : Type 0 where
   -- laws, nodes and rows have one equation each
   pub count : length (equations_of b) ≡ length b.laws + length b.domains + length b.rows
   -- the places of each row's flow
-  pub rows : (k : ℕ) (d : Row) → k < length b.rows → PlacedRow b (slice_index_or b.rows k d)
+  pub rows : (k : ℕ) (d : Row ℕ) → k < length b.rows → PlacedRow b (slice_index_or b.rows k d)
   -- what is no row's flow stands in no node's equation
-  pub others : (v : ℕ) → ((k : ℕ) (d : Row) → k < length b.rows → flow_of (slice_index_or b.rows k d) ≢ v) → Absent b v
+  pub others : (v : ℕ) → ((k : ℕ) (d : Row ℕ) → k < length b.rows → flow_of (slice_index_or b.rows k d) ≢ v) → Absent b v

@@ -15,15 +15,15 @@ pub record Put (old : List Term) (olds : List Span) (at k : ℕ) (es : List (Lis
   pub next : end ≡ at + length (flat es)
 
 -- the numbers of the row's potentials fit 64 bits
-abbrev pub Numbered : ℕ → Row → Type 0
+abbrev pub Numbered : ℕ → Row ℕ → Type 0
 Numbered variables (Branch flow across first second) = (variables + first < 2 ^ 64) × (variables + second < 2 ^ 64)
 Numbered variables (Earth flow across node) = variables + node < 2 ^ 64
 
 -- how many terms a row brings, at its nodes and in its own equation
-abbrev pub row_size : Row → ℕ
+abbrev pub row_size : Row ℕ → ℕ
 row_size (Branch flow across first second) = cond (first == second) 3 5
 row_size (Earth flow across node) = 3
 
-abbrev pub row_sizes : List Row → ℕ
+abbrev pub row_sizes : List (Row ℕ) → ℕ
 row_sizes [] = 0
 row_sizes (row ∷ rows) = row_size row + row_sizes rows

@@ -8,7 +8,7 @@ use Rattle.netlist.specs.Sound.{joins, every}
 use Rattle.netlist.proofs.Every.{every_weaker}
 
 -- a node more
-joins_node : (ds : List ℕ) (d : ℕ) (row : Row) → joins ds row ≡ true → joins (ds ++ d ∷ []) row ≡ true
+joins_node : (ds : List ℕ) (d : ℕ) (row : Row ℕ) → joins ds row ≡ true → joins (ds ++ d ∷ []) row ≡ true
 joins_node ds d (Branch flow across first second) h =
     let p = and_parts (ltb first (length ds)) _ h in
     let q = and_parts (ltb second (length ds)) _ p.1 in
@@ -23,5 +23,5 @@ joins_node ds d (Earth flow across node) h =
     let long = length_push ds d in
     lt-ltb node _ (omega arith)
 
-pub all_join_node : (ds : List ℕ) (d : ℕ) (rows : List Row) → every (joins ds) rows ≡ true → every (joins (ds ++ d ∷ [])) rows ≡ true
+pub all_join_node : (ds : List ℕ) (d : ℕ) (rows : List (Row ℕ)) → every (joins ds) rows ≡ true → every (joins (ds ++ d ∷ [])) rows ≡ true
 all_join_node ds d rows h = every_weaker (joins ds) (joins (ds ++ d ∷ [])) (joins_node ds d) rows h

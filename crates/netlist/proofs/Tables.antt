@@ -48,7 +48,7 @@ parts (line ∷ xs) ys h =
     (ap (λ (t : Bool). cond t (Some line.1) (first_of xs)) p.0 ∙ q.0, q.1)
 
 -- the row names what is drawn and free
-pub record Fresh (b : Netlist) (row : Row) : Type 0 where
+pub record Fresh (b : Netlist) (row : Row ℕ) : Type 0 where
   pub joins : joins b.domains row ≡ true
   pub flow_drawn : flow_of row < b.variables
   pub across_drawn : across_of row < b.variables
@@ -56,7 +56,7 @@ pub record Fresh (b : Netlist) (row : Row) : Type 0 where
   pub flow_free : uses b.rows (flow_of row) ≡ 0
   pub across_free : uses b.rows (across_of row) ≡ 0
 
-pub row_fresh : (b : Netlist) (row : Row) → first_of (table_row b row) ≡ None → Fresh b row
+pub row_fresh : (b : Netlist) (row : Row ℕ) → first_of (table_row b row) ≡ None → Fresh b row
 row_fresh b (Branch flow across first second) h =
     let t = passes (table_row b (Branch flow across first second)) h in
     let twice = or_parts (taken_by b.rows across) (eqb across flow) t.1.1.1.1.1.0 in
@@ -82,34 +82,34 @@ row_fresh b (Earth flow across node) h =
     }
 
 -- the terms of a law, one by one: the one at place i of the slice is term i + 1
-pub terms_next : (n : ℕ) (ts : List RawTerm) (i : ℕ) (d : RawTerm) → i < length ts → first_of (table_term n (i + 1) (get_or ts i d)) ≡ None → first_of (table_terms n (i + 1 + 1) (drop (i + 1) ts)) ≡ first_of (table_terms n (i + 1) (drop i ts))
+pub terms_next : (n : ℕ) (ts : List (RawTerm ℕ)) (i : ℕ) (d : RawTerm ℕ) → i < length ts → first_of (table_term n (i + 1) (get_or ts i d)) ≡ None → first_of (table_terms n (i + 1 + 1) (drop (i + 1) ts)) ≡ first_of (table_terms n (i + 1) (drop i ts))
 terms_next n ts i d within h =
-    sym (at_drop_more (λ (xs : List RawTerm). first_of (table_terms n (i + 1) xs)) ts i d within ∙ passed_over (table_term n (i + 1) (get_or ts i d)) (table_terms n (i + 1 + 1) (drop (i + 1) ts)) h)
+    sym (at_drop_more (λ (xs : List (RawTerm ℕ)). first_of (table_terms n (i + 1) xs)) ts i d within ∙ passed_over (table_term n (i + 1) (get_or ts i d)) (table_terms n (i + 1 + 1) (drop (i + 1) ts)) h)
 
-pub terms_stop : (n : ℕ) (ts : List RawTerm) (i : ℕ) (d : RawTerm) (why : Refusal) → i < length ts → first_of (table_term n (i + 1) (get_or ts i d)) ≡ Some why → first_of (table_terms n (i + 1) (drop i ts)) ≡ Some why
+pub terms_stop : (n : ℕ) (ts : List (RawTerm ℕ)) (i : ℕ) (d : RawTerm ℕ) (why : Refusal) → i < length ts → first_of (table_term n (i + 1) (get_or ts i d)) ≡ Some why → first_of (table_terms n (i + 1) (drop i ts)) ≡ Some why
 terms_stop n ts i d why within h =
-    at_drop_more (λ (xs : List RawTerm). first_of (table_terms n (i + 1) xs)) ts i d within ∙ stopped_at (table_term n (i + 1) (get_or ts i d)) (table_terms n (i + 1 + 1) (drop (i + 1) ts)) why h
+    at_drop_more (λ (xs : List (RawTerm ℕ)). first_of (table_terms n (i + 1) xs)) ts i d within ∙ stopped_at (table_term n (i + 1) (get_or ts i d)) (table_terms n (i + 1 + 1) (drop (i + 1) ts)) why h
 
 -- the terms of a law that passes are within their bounds
-all_sized : (n i : ℕ) (ts : List RawTerm) → first_of (table_terms n i ts) ≡ None → every is_sized (map term_of ts) ≡ true
+all_sized : (n i : ℕ) (ts : List (RawTerm ℕ)) → first_of (table_terms n i ts) ≡ None → every is_sized (map term_of ts) ≡ true
 all_sized n i [] h = refl
 all_sized n i (t ∷ ts) h =
     let p = parts (table_term n i t) (table_terms n (i + 1) ts) h in
     and_from _ _ (not_from_false _ (passes (table_term n i t) p.0).0) (all_sized n (i + 1) ts p.1)
 
-all_named : (n i : ℕ) (ts : List RawTerm) → first_of (table_terms n i ts) ≡ None → every (names n) (map term_of ts) ≡ true
+all_named : (n i : ℕ) (ts : List (RawTerm ℕ)) → first_of (table_terms n i ts) ≡ None → every (names n) (map term_of ts) ≡ true
 all_named n i [] h = refl
 all_named n i (t ∷ ts) h =
     let p = parts (table_term n i t) (table_terms n (i + 1) ts) h in
     and_from _ _ (lt-ltb _ _ (leb-false _ _ (passes (table_term n i t) p.0).1.1.0)) (all_named n (i + 1) ts p.1)
 
 -- what holds of a law that passes, over variables 0 to n - 1
-pub record Accepted (n : ℕ) (ts : List RawTerm) : Type 0 where
+pub record Accepted (n : ℕ) (ts : List (RawTerm ℕ)) : Type 0 where
   pub count : is_term_count (length ts) ≡ true
   pub sized : every is_sized (map term_of ts) ≡ true
   pub named : every (names n) (map term_of ts) ≡ true
 
-pub law_accepted : (n : ℕ) (ts : List RawTerm) → first_of (table_law n ts) ≡ None → Accepted n ts
+pub law_accepted : (n : ℕ) (ts : List (RawTerm ℕ)) → first_of (table_law n ts) ≡ None → Accepted n ts
 law_accepted n ts h =
     let p = passes_line (no_term_count (length ts)) TermCount (first_of (table_terms n 1 ts)) h in
     record { count = not_from_false _ p.0; sized = all_sized n 1 ts p.1; named = all_named n 1 ts p.1 }

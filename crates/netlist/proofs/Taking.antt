@@ -8,7 +8,7 @@ use Rattle.netlist.specs.Netlist.{Netlist}
 use Rattle.netlist.specs.Rows.{bit, hits, uses, flow_of, across_of}
 use Rattle.netlist.specs.Rules.{first_of, row_tests, taken_by, table_row}
 
-pub uses_push : (rows : List Row) (row : Row) (v : ℕ) → uses (rows ++ row ∷ []) v ≡ uses rows v + hits row v
+pub uses_push : (rows : List (Row ℕ)) (row : Row ℕ) (v : ℕ) → uses (rows ++ row ∷ []) v ≡ uses rows v + hits row v
 uses_push [] row v = omega arith
 uses_push (r ∷ rows) row v = omega (arith, uses_push rows row v)
 
@@ -22,11 +22,11 @@ flag_push taken v =
     (cases_eq v (length taken)))
     (cases_lt v (length taken))
 
-pub marked_variable : (taken : List Bool) (rows : List Row) → Marked taken rows → Marked (taken ++ false ∷ []) rows
+pub marked_variable : (taken : List Bool) (rows : List (Row ℕ)) → Marked taken rows → Marked (taken ++ false ∷ []) rows
 marked_variable taken rows h v = h v ∙ ap bit (sym (flag_push taken v))
 
 -- a row more, of two variables that no row uses
-pub marked_row : (taken : List Bool) (rows : List Row) (row : Row) → flow_of row < length taken → across_of row < length taken → (across_of row ≡ flow_of row → ⊥) → uses rows (flow_of row) ≡ 0 → uses rows (across_of row) ≡ 0 → Marked taken rows → Marked (raised taken row) (rows ++ row ∷ [])
+pub marked_row : (taken : List Bool) (rows : List (Row ℕ)) (row : Row ℕ) → flow_of row < length taken → across_of row < length taken → (across_of row ≡ flow_of row → ⊥) → uses rows (flow_of row) ≡ 0 → uses rows (across_of row) ≡ 0 → Marked taken rows → Marked (raised taken row) (rows ++ row ∷ [])
 marked_row taken rows row fl al apart fu au h v =
     let pushed = uses_push rows row v in
     let long = length-set taken (flow_of row) true in
@@ -58,10 +58,10 @@ bit_le : (b : Bool) → bit b ≤ 1
 bit_le true = omega arith
 bit_le false = omega arith
 
-pub marked_once : (taken : List Bool) (rows : List Row) → Marked taken rows → (v : ℕ) → uses rows v ≤ 1
+pub marked_once : (taken : List Bool) (rows : List (Row ℕ)) → Marked taken rows → (v : ℕ) → uses rows v ≤ 1
 marked_once taken rows h v = omega (arith, h v, bit_le (get_or taken v false))
 
-pub marked_drawn : (taken : List Bool) (rows : List Row) → Marked taken rows → (v : ℕ) → length taken ≤ v → uses rows v ≡ 0
+pub marked_drawn : (taken : List Bool) (rows : List (Row ℕ)) → Marked taken rows → (v : ℕ) → length taken ≤ v → uses rows v ≡ 0
 marked_drawn taken rows h v l = h v ∙ ap bit (get_or_past taken v false l)
 
 -- flags that agree with the rows judge as the rows do
@@ -69,7 +69,7 @@ flag_bit : (f : Bool) (n : ℕ) → n ≡ bit f → f ≡ ltb 0 n
 flag_bit true n h = ap (λ (k : ℕ). ltb 0 k) (sym h)
 flag_bit false n h = ap (λ (k : ℕ). ltb 0 k) (sym h)
 
-pub same_tests : (b : Netlist) (flags : List Bool) (row : Row) → Marked flags b.rows → length flags ≡ b.variables → first_of (flag_tests b.domains flags row) ≡ first_of (table_row b row)
+pub same_tests : (b : Netlist) (flags : List Bool) (row : Row ℕ) → Marked flags b.rows → length flags ≡ b.variables → first_of (flag_tests b.domains flags row) ≡ first_of (table_row b row)
 same_tests b flags row marked long =
     ap (λ (f : ℕ → Bool). first_of (row_tests b.domains (length flags) f row)) (λ i v. flag_bit (flag_up flags v) (uses b.rows v) (marked v) i)
     ∙ ap (λ (n : ℕ). first_of (row_tests b.domains n (taken_by b.rows) row)) long

@@ -9,13 +9,13 @@ flag_up flags v = slice_index_or flags v false
 
 -- A variable with its flag up is had by one row, once, and any other by none. So no variable is taken
 -- twice, and none that is not drawn, since it has no flag.
-abbrev pub Marked : List Bool → List Row → Type 0
+abbrev pub Marked : List Bool → List (Row ℕ) → Type 0
 Marked flags rows = (v : ℕ) → uses rows v ≡ bit (flag_up flags v)
 
 -- the tests of a row, read on the flags
-abbrev pub flag_tests : List ℕ → List Bool → Row → Tests
+abbrev pub flag_tests : List ℕ → List Bool → Row ℕ → Tests
 flag_tests domains flags row = row_tests domains (length flags) (flag_up flags) row
 
 -- the flags once the row is drawn
-abbrev pub raised : List Bool → Row → List Bool
+abbrev pub raised : List Bool → Row ℕ → List Bool
 raised flags row = slice_set (slice_set flags (flow_of row) true) (across_of row) true

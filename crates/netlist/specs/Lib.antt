@@ -1,4 +1,5 @@
 pub mod Domains
+pub mod Orders
 pub mod Rows
 pub mod Netlist
 pub mod Refusals

@@ -11,7 +11,7 @@ use Rattle.netlist.specs.declared.terms.Term.{Term}
 pub record Netlist : Type 0 where
   pub domains : List ℕ
   pub variables : ℕ
-  pub rows : List Row
+  pub rows : List (Row ℕ)
   pub laws : List (List Term)
 
 abbrev pub empty : Netlist
@@ -26,7 +26,7 @@ abbrev pub order_of : ℕ → Order
 order_of n = cond (n == 0) Value Rate
 
 -- the term that a raw term stands for, once it has passed
-abbrev pub term_of : RawTerm → Term
+abbrev pub term_of : RawTerm ℕ → Term
 term_of t = record { coefficient = t.coefficient; order = order_of t.order; variable = t.variable }
 
 -- A netlist with more in it. What is new comes last, so nothing is renumbered.
@@ -36,8 +36,8 @@ with_nodes b new = record { domains = b.domains ++ new; variables = b.variables;
 abbrev pub with_variables : Netlist → ℕ → Netlist
 with_variables b count = record { domains = b.domains; variables = b.variables + count; rows = b.rows; laws = b.laws }
 
-abbrev pub with_rows : Netlist → List Row → Netlist
+abbrev pub with_rows : Netlist → List (Row ℕ) → Netlist
 with_rows b new = record { domains = b.domains; variables = b.variables; rows = b.rows ++ new; laws = b.laws }
 
-abbrev pub with_laws : Netlist → List (List RawTerm) → Netlist
+abbrev pub with_laws : Netlist → List (List (RawTerm ℕ)) → Netlist
 with_laws b new = record { domains = b.domains; variables = b.variables; rows = b.rows; laws = b.laws ++ map (map term_of) new }

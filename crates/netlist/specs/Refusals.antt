@@ -1,5 +1,5 @@
 -- The number, the place and the cause of each refusal. Assumes nothing.
-use Rattle.std.specs.Prelude.{ℕ}
+use Rattle.std.specs.Prelude.{ℕ, List, ◌++◌, codes, decimal}
 use Rattle.netlist.specs.declared.refusals.Argument.{Argument}
 use Rattle.netlist.specs.declared.refusals.Argument.TheVariants.{Domain as DomainNumber, Flow, Across, First, Second, Node, Term as TermNumber}
 use Rattle.netlist.specs.declared.refusals.Refusal.{Refusal}
@@ -53,3 +53,7 @@ place NoEquation = 0
 -- the number of an inner refusal that led to this one; none here has one
 abbrev pub cause : Refusal → ℕ
 cause why = 0
+
+-- how a user is told of it
+abbrev pub refusal_text : Refusal → List ℕ
+refusal_text why = codes "refused " ++ decimal (number why) ++ codes " " ++ decimal (place why) ++ codes " " ++ decimal (cause why)

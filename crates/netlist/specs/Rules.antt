@@ -69,7 +69,7 @@ no_node domains n = nat_le (length domains) n
 abbrev pub domain_of : List ℕ → ℕ → ℕ
 domain_of domains n = slice_index domains n
 
-abbrev pub row_tests : List ℕ → ℕ → (ℕ → Bool) → Row → Tests
+abbrev pub row_tests : List ℕ → ℕ → (ℕ → Bool) → Row ℕ → Tests
 row_tests domains n taken (Branch flow across first second) =
     (no_node domains first, NoNode First)
     ∷ (no_node domains second, NoNode Second)
@@ -88,23 +88,23 @@ row_tests domains n taken (Earth flow across node) =
     ∷ []
 
 -- a variable is taken once a row has it
-abbrev pub taken_by : List Row → ℕ → Bool
+abbrev pub taken_by : List (Row ℕ) → ℕ → Bool
 taken_by rows v = nat_lt 0 (uses rows v)
 
-abbrev pub table_row : Netlist → Row → Tests
+abbrev pub table_row : Netlist → Row ℕ → Tests
 table_row b row = row_tests b.domains b.variables (taken_by b.rows) row
 
-abbrev pub room_row : List Row → Tests
+abbrev pub room_row : List (Row ℕ) → Tests
 room_row rows = (nat_le 1500 (length rows), Limit Rows) ∷ []
 
 -- branch(flow, across, first, second) and earth(flow, across, node)
-abbrev pub judge_row : Netlist → Row → Option Refusal
+abbrev pub judge_row : Netlist → Row ℕ → Option Refusal
 judge_row b row = first_of (table_row b row ++ room_row b.rows)
 
-abbrev pub answer_row : Netlist → Row → Result ℕ Refusal
+abbrev pub answer_row : Netlist → Row ℕ → Result ℕ Refusal
 answer_row b row = answer (judge_row b row) (length b.rows)
 
-abbrev pub after_row : Netlist → Row → Netlist
+abbrev pub after_row : Netlist → Row ℕ → Netlist
 after_row b row = after (judge_row b row) b (with_rows b (row ∷ []))
 
 -- What can be wrong with a law, apart from want of room, over variables 0 to n - 1. Its terms are
@@ -115,7 +115,7 @@ no_coefficient c = unsigned_abs c == 0 || nat_lt 1000000 (unsigned_abs c)
 abbrev pub no_term_count : ℕ → Bool
 no_term_count n = n == 0 || nat_lt 8 n
 
-abbrev pub table_term : ℕ → ℕ → RawTerm → Tests
+abbrev pub table_term : ℕ → ℕ → RawTerm ℕ → Tests
 table_term n i t =
     (no_coefficient t.coefficient, Coefficient i)
     ∷ (nat_lt 1 t.order, Order i)
@@ -123,11 +123,11 @@ table_term n i t =
     ∷ []
 
 -- the terms in turn, the first of them being term i
-abbrev pub table_terms : ℕ → ℕ → List RawTerm → Tests
+abbrev pub table_terms : ℕ → ℕ → List (RawTerm ℕ) → Tests
 table_terms n i [] = []
 table_terms n i (t ∷ ts) = table_term n i t ++ table_terms n (i + 1) ts
 
-abbrev pub table_law : ℕ → List RawTerm → Tests
+abbrev pub table_law : ℕ → List (RawTerm ℕ) → Tests
 table_law n ts = (no_term_count (length ts), TermCount) ∷ table_terms n 1 ts
 
 abbrev pub room_law : List (List Term) → ℕ → Tests
@@ -137,11 +137,11 @@ room_law laws count =
     ∷ []
 
 -- law(terms)
-abbrev pub judge_law : Netlist → List RawTerm → Option Refusal
+abbrev pub judge_law : Netlist → List (RawTerm ℕ) → Option Refusal
 judge_law b ts = first_of (table_law b.variables ts ++ room_law b.laws (length ts))
 
-abbrev pub answer_law : Netlist → List RawTerm → Result ℕ Refusal
+abbrev pub answer_law : Netlist → List (RawTerm ℕ) → Result ℕ Refusal
 answer_law b ts = answer (judge_law b ts) (length b.laws)
 
-abbrev pub after_law : Netlist → List RawTerm → Netlist
+abbrev pub after_law : Netlist → List (RawTerm ℕ) → Netlist
 after_law b ts = after (judge_law b ts) b (with_laws b (ts ∷ []))

@@ -1,6 +1,6 @@
 // The physical domain of a node. Callers name one by its number, from 1 to 4.
-ghost use Rattle.std.specs.Prelude.{◌≡◌, true, MatchOption};
-ghost use Rattle.netlist.specs.Domains.{domain_number, no_domain};
+ghost use Rattle.std.specs.Prelude.{◌≡◌};
+ghost use Rattle.netlist.specs.Domains.{domain_number, IsDomainOf};
 
 #[derive(Clone, Copy, PartialEq, Eq, Debug)]
 pub enum Domain {
@@ -10,28 +10,36 @@ pub enum Domain {
     Hydraulic,
 }
 
-impl Domain {
-    pub fn number(self) -> u32
-        ensures { result ≡ domain_number self }
-    {
-        match self {
+// That no domain has a number.
+#[derive(Clone, Copy, PartialEq, Eq, Debug)]
+pub struct NoDomain;
+
+impl From<Domain> for u32 {
+    ghost from_gives = { λ domain number. number ≡ domain_number domain };
+
+    fn from(domain: Domain) -> u32 {
+        match domain {
             Domain::Electrical => 1,
             Domain::Rotational => 2,
             Domain::Translational => 3,
             Domain::Hydraulic => 4,
         }
     }
+}
 
-    // The domain of this number, if there is one.
-    pub fn from_number(number: u32) -> Option<Domain>
-        ensures { MatchOption result (no_domain number ≡ true) (λ d. domain_number d ≡ number) }
-    {
+// The domain of this number, if there is one.
+impl TryFrom<u32> for Domain {
+    type Error = NoDomain;
+
+    ghost try_from_gives = { IsDomainOf };
+
+    fn try_from(number: u32) -> Result<Domain, NoDomain> {
         match number {
-            1 => Some(Domain::Electrical),
-            2 => Some(Domain::Rotational),
-            3 => Some(Domain::Translational),
-            4 => Some(Domain::Hydraulic),
-            _ => None,
+            1 => Ok(Domain::Electrical),
+            2 => Ok(Domain::Rotational),
+            3 => Ok(Domain::Translational),
+            4 => Ok(Domain::Hydraulic),
+            _ => Err(NoDomain),
         }
     }
 }

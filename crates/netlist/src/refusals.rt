@@ -1,6 +1,8 @@
 // Why a call is refused. Users know a refusal by its number, its place and its cause.
-ghost use Rattle.std.specs.Prelude.{◌≡◌};
-ghost use Rattle.netlist.specs.Refusals.{number, place, cause, table_number, argument_number};
+ghost use Rattle.std.specs.Prelude.{◌≡◌, Some};
+ghost use Rattle.netlist.specs.Refusals.{number, place, cause, table_number, argument_number, refusal_text};
+
+use std::fmt;
 
 // The table whose limit would be passed.
 #[derive(Clone, Copy, PartialEq, Eq, Debug)]
@@ -51,11 +53,11 @@ pub enum Refusal {
 // No refusal here stems from another one.
 const NO_CAUSE: u32 = 0;
 
-impl Table {
-    pub fn number(self) -> usize
-        ensures { result ≡ table_number self }
-    {
-        match self {
+impl From<Table> for usize {
+    ghost from_gives = { λ table n. n ≡ table_number table };
+
+    fn from(table: Table) -> usize {
+        match table {
             Table::Nodes => 1,
             Table::Variables => 2,
             Table::Rows => 3,
@@ -65,11 +67,11 @@ impl Table {
     }
 }
 
-impl Argument {
-    pub fn number(self) -> usize
-        ensures { result ≡ argument_number self }
-    {
-        match self {
+impl From<Argument> for usize {
+    ghost from_gives = { λ argument n. n ≡ argument_number argument };
+
+    fn from(argument: Argument) -> usize {
+        match argument {
             Argument::Domain => 1,
             Argument::Flow => 1,
             Argument::Across => 2,
@@ -103,11 +105,11 @@ impl Refusal {
         ensures { result ≡ place self }
     {
         match self {
-            Refusal::Limit { table } => table.number(),
-            Refusal::NoNode { argument } => argument.number(),
-            Refusal::NoVariable { argument } => argument.number(),
-            Refusal::Domain { argument } => argument.number(),
-            Refusal::Taken { argument } => argument.number(),
+            Refusal::Limit { table } => usize::from(table),
+            Refusal::NoNode { argument } => usize::from(argument),
+            Refusal::NoVariable { argument } => usize::from(argument),
+            Refusal::Domain { argument } => usize::from(argument),
+            Refusal::Taken { argument } => usize::from(argument),
             Refusal::Coefficient { term } => term,
             Refusal::TermCount => 0,
             Refusal::Order { term } => term,
@@ -122,3 +124,17 @@ impl Refusal {
         NO_CAUSE
     }
 }
+
+// As a user is told of it: by its number, its place and its cause.
+impl fmt::Display for Refusal {
+    ghost output = { λ why. Some (refusal_text why) };
+
+    fn fmt<W: fmt::Write>(&self, f: &mut fmt::Formatter<W>) -> fmt::Result {
+        let number = self.number();
+        let place = self.place();
+        let cause = self.cause();
+        write!(f, "refused {number} {place} {cause}")
+    }
+}
+
+impl std::error::Error for Refusal {}

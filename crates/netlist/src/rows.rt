@@ -3,24 +3,25 @@ ghost use Rattle.std.specs.Prelude.{◌≡◌};
 ghost use Rattle.netlist.specs.Rows.{flow_of, across_of};
 
 // A branch leads from its first node to its second, an earth from its node to the one common earth
-// point. Each row has a flow variable and an across variable.
+// point. Each row has a flow variable and an across variable. What numbers them is a parameter, since a
+// plan's nodes and variables are numbered more narrowly than a sheet's.
 #[derive(Clone, Copy, PartialEq, Eq, Debug)]
-pub enum Row {
+pub enum Row<N = usize> {
     Branch {
-        flow: usize,
-        across: usize,
-        first: usize,
-        second: usize,
+        flow: N,
+        across: N,
+        first: N,
+        second: N,
     },
     Earth {
-        flow: usize,
-        across: usize,
-        node: usize,
+        flow: N,
+        across: N,
+        node: N,
     },
 }
 
-impl Row {
-    pub fn flow(self) -> usize
+impl<N: Copy> Row<N> {
+    pub fn flow(self) -> N
         ensures { result ≡ flow_of self }
     {
         match self {
@@ -29,7 +30,7 @@ impl Row {
         }
     }
 
-    pub fn across(self) -> usize
+    pub fn across(self) -> N
         ensures { result ≡ across_of self }
     {
         match self {

@@ -40,7 +40,7 @@ returns-then-node-nodes c =
     let within : n < nodes = omega (arith, c.if-node-nodes.true) in
     let place : length b.laws + n ≡ k = omega (arith, c.if-k-law_count.false) in
     let same =
-    ap (λ (rs : List Row). node_sum rs n) c.rows-rows.ensures.value ∙ sym (node_at b.laws b.rows nodes b.variables n within)
+    ap (λ (rs : List (Row ℕ)). node_sum rs n) c.rows-rows.ensures.value ∙ sym (node_at b.laws b.rows nodes b.variables n within)
     ∙ ap (λ (j : ℕ). get_or (equations_of b) j []) place in
     let p = lined b k c.args.buffer.now _ c.node_line.result c.node_line.new.buffer (omega arith) (λ i. line_text (c.variables-variables.ensures i) (same i)) c.node_line.ensures in
     record { answer = p.answer; buffer = p.buffer }
@@ -54,7 +54,7 @@ row_line-requires c =
     let here : Numbered b.variables (get_or b.rows i (Branch 0 0 0 0)) =
     All-get_or (Numbered b.variables) b.rows i (Branch 0 0 0 0) (omega (arith, c.if-row-rows.true))
     (numbered b.domains b.variables b.rows s.within.nodes s.within.variables s.joined) in
-    subst (λ (p : ℕ × List Row). Numbered p.0 (get_or p.1 i (Branch 0 0 0 0))) (λ j. (sym c.variables-variables.ensures j, sym c.rows-rows.ensures.value j)) here
+    subst (λ (p : ℕ × List (Row ℕ)). Numbered p.0 (get_or p.1 i (Branch 0 0 0 0))) (λ j. (sym c.variables-variables.ensures j, sym c.rows-rows.ensures.value j)) here
 
 pub returns-then-row-rows : goal.returns-then-row-rows
 returns-then-row-rows c =

@@ -55,6 +55,6 @@ returns c =
     let inv = c.loop-k.invariant in
     let all = take_all _ _ c.loop-k-test.false in
     record {
-      value = inv.0 ∙ ap (λ (xs : List Row). c.args.at + length (node_sum xs c.args.node)) all;
-      after = inv.1 ∙ ap (λ (xs : List Row). written c.args.terms.now c.args.at (node_sum xs c.args.node)) all;
+      value = inv.0 ∙ ap (λ (xs : List (Row ℕ)). c.args.at + length (node_sum xs c.args.node)) all;
+      after = inv.1 ∙ ap (λ (xs : List (Row ℕ)). written c.args.terms.now c.args.at (node_sum xs c.args.node)) all;
     }

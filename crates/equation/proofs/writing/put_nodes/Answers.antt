@@ -8,7 +8,7 @@ use Rattle.equation.proofs.writing.put_nodes.Goals as goal
 pub loop-node-init : goal.loop-node-init
 loop-node-init c = start c.args.terms.now c.args.spans.now c.args.at c.args.k
 
-sum_at : (rows : List Row) (nodes node : ℕ) → node < nodes → get_or (node_sums rows nodes) node [] ≡ node_sum rows node
+sum_at : (rows : List (Row ℕ)) (nodes node : ℕ) → node < nodes → get_or (node_sums rows nodes) node [] ≡ node_sum rows node
 sum_at rows nodes node h = get_or-map-range_with_len (node_sum rows) 0 nodes node node [] h (omega arith)
 
 pub put_node-end-requires : goal.put_node-end-requires

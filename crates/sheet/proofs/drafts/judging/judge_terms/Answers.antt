@@ -17,5 +17,5 @@ returns-in-Some c =
 
 pub returns : goal.returns
 returns c =
-    sym (at_drop_all (λ (xs : List RawTerm). first_of (table_terms c.args.variables (c.loop-i.i + 1) xs)) c.args.terms.now c.loop-i.i c.loop-i-test.false)
+    sym (at_drop_all (λ (xs : List (RawTerm ℕ)). first_of (table_terms c.args.variables (c.loop-i.i + 1) xs)) c.args.terms.now c.loop-i.i c.loop-i-test.false)
     ∙ c.loop-i.invariant

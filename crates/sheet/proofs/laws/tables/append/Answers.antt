@@ -11,7 +11,7 @@ use Rattle.sheet.proofs.laws.tables.append.Goals as goal
 pub accepted-requires : goal.accepted-requires
 accepted-requires c =
     let ts = c.args.terms.now in
-    let here = every_at (λ (t : RawTerm). is_sized (term_of t)) ts c.loop-term.term-index _ c.loop-term-test.true (sym (every_map is_sized term_of ts) ∙ c.requires.sized) in
+    let here = every_at (λ (t : RawTerm ℕ). is_sized (term_of t)) ts c.loop-term.term-index _ c.loop-term-test.true (sym (every_map is_sized term_of ts) ∙ c.requires.sized) in
     ltb-false 1000000 _ (or_parts _ _ (not-true _ here)).1
 
 pub loop-term-preserved : goal.loop-term-preserved
@@ -28,7 +28,7 @@ pub returns : goal.returns
 returns c =
     let inv = c.loop-term.invariant in
     record {
-      items = inv.0 ∙ ap (λ (xs : List RawTerm). c.args.to.now.items ++ map term_of xs) (take_all _ _ c.loop-term-test.false);
+      items = inv.0 ∙ ap (λ (xs : List (RawTerm ℕ)). c.args.to.now.items ++ map term_of xs) (take_all _ _ c.loop-term-test.false);
       len = omega arith;
       capacity = inv.2;
     }
