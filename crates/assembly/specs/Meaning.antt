@@ -2,8 +2,8 @@
 use Rattle.std.specs.Prelude.{◌≡◌, ℕ, ◌≤◌, Bool, true, false, List, [], ◌++◌, map, length, Some, None, Option, slice_index_or}
 use Rattle.netlist.specs.declared.domains.Domain.{Domain}
 use Rattle.netlist.specs.Sound.{every, is_term_count}
-use Rattle.assembly.specs.declared.plans.PlanRow.{PlanRow}
-use Rattle.assembly.specs.declared.plans.PlanTerm.{PlanTerm}
+use Rattle.assembly.specs.Plans.{PlanRow}
+use Rattle.assembly.specs.Plans.{PlanTerm}
 use Rattle.assembly.specs.declared.plans.Size.{Size}
 
 -- The domains of the ends and of the inner nodes, the number of variables, the rows and the laws. The

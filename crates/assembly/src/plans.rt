@@ -1,29 +1,14 @@
 // What a plan is made of, in the plan's own numbers. Its nodes are the ends, two of them, and then the
 // inner nodes: node 0 is the first end, node 1 the second, node 2 + j inner node j.
 
-// A row may name a node or a variable that the plan lacks: that is judged where the plan is placed.
-#[derive(Clone, Copy, PartialEq, Eq, Debug)]
-pub enum PlanRow {
-    Branch {
-        flow: u32,
-        across: u32,
-        first: u32,
-        second: u32,
-    },
-    Earth {
-        flow: u32,
-        across: u32,
-        node: u32,
-    },
-}
+use netlist::rows::Row;
+use netlist::terms::RawTerm;
 
-// A term as it is written, before it is judged. Order 0 is the value, order 1 the rate.
-#[derive(Clone, Copy, PartialEq, Eq, Debug)]
-pub struct PlanTerm {
-    pub coefficient: i64,
-    pub order: u32,
-    pub variable: u32,
-}
+// A row may name a node or a variable that the plan lacks: that is judged where the plan is placed.
+pub type PlanRow = Row<u32>;
+
+// A term as it is written, before it is judged.
+pub type PlanTerm = RawTerm<u32>;
 
 // How many ends, inner nodes, variables, rows and laws a plan has.
 #[derive(Clone, Copy, PartialEq, Eq, Debug)]

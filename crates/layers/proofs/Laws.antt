@@ -5,7 +5,7 @@ use Rattle.std.specs.List.{slice_get}
 use Rattle.std.proofs.lemmas.List.{length-map, map-append}
 use Rattle.netlist.specs.Sound.{every, is_term_count}
 use Rattle.netlist.proofs.Every.{every_append}
-use Rattle.assembly.specs.declared.plans.PlanTerm.{PlanTerm}
+use Rattle.assembly.specs.Plans.{PlanTerm}
 use Rattle.assembly.specs.Meaning.{Plan, Bounded}
 use Rattle.assembly.proofs.Nth.{nth_map}
 use Rattle.layers.specs.declared.renumbering.Renumbering.{Renumbering}

@@ -1,7 +1,7 @@
 -- What the assemblies of the trials mean. Assumes nothing.
 use Rattle.std.specs.Prelude.{[], ◌∷◌, pos}
-use Rattle.assembly.specs.declared.plans.PlanRow.TheVariants.{Branch, Earth}
-use Rattle.assembly.specs.declared.plans.PlanTerm.{PlanTerm}
+use Rattle.netlist.specs.declared.rows.Row.TheVariants.{Branch, Earth}
+use Rattle.assembly.specs.Plans.{PlanTerm}
 use Rattle.assembly.specs.Meaning.{Meaning, void, plan}
 use Rattle.layers_trials.specs.declared.trial_parts.Coupler.{Coupler}
 use Rattle.layers_trials.specs.declared.trial_parts.Nothing.{Nothing}

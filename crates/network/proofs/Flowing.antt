@@ -79,11 +79,11 @@ module _ {G : Type 0} (𝓖 : Group G) where
       ∙ sym (sum_plus n _ _)
       ∙ sum_same n _ _ (λ v _. sym (ap (λ y. cond (inside v) y 𝓖.zero) (crossing_ends (eqb t v) (eqb h v) x) ∙ cond_plus (inside v) _ _))
 
-  leaves_sum : (inside : ℕ → Bool) (n : ℕ) (x : G) (row : Row) → (tail_of row < n + 1) × (head_of row < n + 1) → leaves 𝓖 inside row x ≡ sum_below 𝓖 n (λ u. cond (inside u) (leaves 𝓖 (only u) row x) 𝓖.zero)
+  leaves_sum : (inside : ℕ → Bool) (n : ℕ) (x : G) (row : Row ℕ) → (tail_of row < n + 1) × (head_of row < n + 1) → leaves 𝓖 inside row x ≡ sum_below 𝓖 n (λ u. cond (inside u) (leaves 𝓖 (only u) row x) 𝓖.zero)
   leaves_sum inside n x (Branch flow across first second) within = crossing_sum inside n first second x (omega arith) (omega arith)
   leaves_sum inside n x (Earth flow across node) within = sym (sum_at inside x n node (omega arith))
 
-  flows : (rows : List Row) (values : List G) (n : ℕ) → Drawn rows n → (inside : ℕ → Bool) → net_flow 𝓖 rows values inside ≡ sum_below 𝓖 n (λ u. cond (inside u) (excess 𝓖 rows values u) 𝓖.zero)
+  flows : (rows : List (Row ℕ)) (values : List G) (n : ℕ) → Drawn rows n → (inside : ℕ → Bool) → net_flow 𝓖 rows values inside ≡ sum_below 𝓖 n (λ u. cond (inside u) (excess 𝓖 rows values u) 𝓖.zero)
   flows [] values n ends inside = sym (sum_of_zeros n _ (λ u _. cond_zero (inside u)))
   flows (row ∷ rows) values n ends inside =
       ap₂ 𝓖.sum (leaves_sum inside n (read 𝓖 values (flow_of row)) row (ends 0 (omega arith))) (flows rows values n (λ j l. ends (suc j) (omega arith)) inside)

@@ -12,18 +12,18 @@ pub record Network (G : Type 0) : Type 0 where
   pub head : ℕ → ℕ
   pub reading : ℕ → G
 
-abbrev pub no_row : Row
+abbrev pub no_row : Row ℕ
 no_row = Branch 0 0 0 0
 
-abbrev pub row_at : List Row → ℕ → Row
+abbrev pub row_at : List (Row ℕ) → ℕ → Row ℕ
 row_at rows j = slice_index_or rows j no_row
 
 -- a branch leads from its first node to its second, and an earth row from its node to the earth
-abbrev pub tail_of : Row → ℕ
+abbrev pub tail_of : Row ℕ → ℕ
 tail_of (Branch flow across first second) = first + 1
 tail_of (Earth flow across node) = node + 1
 
-abbrev pub head_of : Row → ℕ
+abbrev pub head_of : Row ℕ → ℕ
 head_of (Branch flow across first second) = second + 1
 head_of (Earth flow across node) = 0
 
@@ -32,7 +32,7 @@ abbrev pub read : {G : Type 0} → Group G → List G → ℕ → G
 read 𝓖 readings v = slice_index_or readings v 𝓖.zero
 
 -- the network of a sheet's rows, with their across readings
-abbrev pub network_of : {G : Type 0} → Group G → List Row → List G → Network G
+abbrev pub network_of : {G : Type 0} → Group G → List (Row ℕ) → List G → Network G
 network_of 𝓖 rows values = record { tail = λ j. tail_of (row_at rows j); head = λ j. head_of (row_at rows j); reading = λ j. read 𝓖 values (across_of (row_at rows j)) }
 
 -- the ends of the first m rows are below n
@@ -40,7 +40,7 @@ abbrev pub Within : {G : Type 0} → Network G → ℕ → ℕ → Type 0
 Within R n m = (j : ℕ) → j < m → (R.tail j < n) × (R.head j < n)
 
 -- the rows name none but the first n nodes
-abbrev pub Drawn : List Row → ℕ → Type 0
+abbrev pub Drawn : List (Row ℕ) → ℕ → Type 0
 Drawn rows n = (j : ℕ) → j < length rows → (tail_of (row_at rows j) < n + 1) × (head_of (row_at rows j) < n + 1)
 
 -- one step of a walk: over row j from its tail to its head, or back

@@ -5,7 +5,7 @@ use Rattle.std.proofs.lemmas.Bool.{and_parts, and_from, or_parts, not-true, ltb-
 use Rattle.netlist.specs.declared.spans.Span.{Span}
 use Rattle.netlist.specs.Pieces.{flat}
 use Rattle.netlist.specs.Sound.{is_term_count}
-use Rattle.assembly.specs.declared.plans.PlanTerm.{PlanTerm}
+use Rattle.assembly.specs.Plans.{PlanTerm}
 use Rattle.parts.specs.Tables.{begins, fill, law_in}
 use Rattle.parts.specs.Held.{fits, law_held}
 

@@ -10,8 +10,8 @@ use Rattle.netlist.specs.declared.spans.Span.{Span}
 use Rattle.netlist.specs.Pieces.{flat}
 use Rattle.netlist.specs.Sound.{every, is_domain, is_term_count}
 use Rattle.netlist.proofs.Every.{every_from, every_map}
-use Rattle.assembly.specs.declared.plans.PlanRow.{PlanRow}
-use Rattle.assembly.specs.declared.plans.PlanTerm.{PlanTerm}
+use Rattle.assembly.specs.Plans.{PlanRow}
+use Rattle.assembly.specs.Plans.{PlanTerm}
 use Rattle.assembly.specs.declared.plans.Size.{Size}
 use Rattle.assembly.specs.Meaning.{Meaning, void, plan, Bounded, Proper, is_void, size_in, size_of, domains_of, rows_of, laws_of, terms_of}
 use Rattle.assembly.proofs.Nth.{nth_map, nth_two, nth_get_or as nth_some, nth_past as nth_none}

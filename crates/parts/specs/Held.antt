@@ -3,7 +3,7 @@
 use Rattle.std.specs.Prelude.{ℕ, ◌-◌, Bool, cond, ◌&&◌, List, [], ◌∷◌, length, pos, nat_le}
 use Rattle.netlist.specs.declared.spans.Span.{Span}
 use Rattle.netlist.specs.Sound.{is_term_count}
-use Rattle.assembly.specs.declared.plans.PlanTerm.{PlanTerm}
+use Rattle.assembly.specs.Plans.{PlanTerm}
 use Rattle.assembly.specs.Meaning.{Meaning, void, plan}
 use Rattle.parts.specs.declared.stored.Stored.{Stored}
 use Rattle.parts.specs.Tables.{is_small, law_in, plan_by}

@@ -1,8 +1,8 @@
 -- What one branch with at most one law means. Assumes nothing.
 use Rattle.std.specs.Prelude.{ℕ, Bool, true, cond, List, [], ◌∷◌, ℤ, pos, negsuc, filter, nat_lt}
 use Rattle.netlist.specs.Sound.{is_domain}
-use Rattle.assembly.specs.declared.plans.PlanRow.TheVariants.{Branch}
-use Rattle.assembly.specs.declared.plans.PlanTerm.{PlanTerm}
+use Rattle.netlist.specs.declared.rows.Row.TheVariants.{Branch}
+use Rattle.assembly.specs.Plans.{PlanTerm}
 use Rattle.assembly.specs.Meaning.{Meaning, void, plan, Plan}
 use Rattle.parts.specs.declared.single.Single.{Single}
 use Rattle.parts.specs.Numbers.{domain_at}

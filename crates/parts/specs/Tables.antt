@@ -2,7 +2,7 @@
 use Rattle.std.specs.Prelude.{ℕ, ◌+◌, Bool, cond, ◌&&◌, List, [], ◌∷◌, map, length, take, drop, ◌==◌, nat_le}
 use Rattle.netlist.specs.declared.spans.Span.{Span}
 use Rattle.netlist.specs.Sound.{every, is_domain, is_term_count}
-use Rattle.assembly.specs.declared.plans.PlanTerm.{PlanTerm}
+use Rattle.assembly.specs.Plans.{PlanTerm}
 use Rattle.assembly.specs.Meaning.{Meaning, void, plan, Plan}
 use Rattle.parts.specs.declared.tables.Tables.{Tables}
 use Rattle.parts.specs.Numbers.{domain_at}

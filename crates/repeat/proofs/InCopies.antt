@@ -6,8 +6,8 @@ use Rattle.std.proofs.lemmas.List.{length-append, length-map}
 use Rattle.std.proofs.lemmas.Option.{slice_get_past}
 use Rattle.std.proofs.lemmas.Bool.{leb-true, and_right, and_parts, both_ways, cond-false}
 use Rattle.netlist.specs.Sound.{every, is_term_count}
-use Rattle.assembly.specs.declared.plans.PlanRow.{PlanRow}
-use Rattle.assembly.specs.declared.plans.PlanTerm.{PlanTerm}
+use Rattle.assembly.specs.Plans.{PlanRow}
+use Rattle.assembly.specs.Plans.{PlanTerm}
 use Rattle.assembly.specs.declared.plans.Size.{Size}
 use Rattle.assembly.specs.Meaning.{Meaning, void, plan, Plan, Bounded, Proper, size_in, size_of, domains_of, rows_of, laws_of, terms_of}
 use Rattle.assembly.proofs.Nth.{nth_append_left, nth_append_right}
