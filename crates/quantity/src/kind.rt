@@ -19,7 +19,8 @@ pub trait Quantity: Copy {
     fn multiple(self, coefficient: i32) -> Self
         ensures { result ≡ group.multiple coefficient self };
 
-    // True exactly when the two are equal.
+    // True exactly when the two are equal. A `==` under a bound tells only what the type calls equal, so
+    // it is no plainer: the trait would need a law beside it.
     fn equals(self, other: Self) -> bool
         ensures { Decides result (self ≡ other) };
 }

@@ -3,7 +3,7 @@ ghost use Rattle.std.specs.Prelude.{◌^◌, ◌<◌};
 ghost use Rattle.std.specs.Int.Signed.{mag};
 
 // A whole number modulo 2^64, held signed.
-#[derive(Clone, Copy)]
+#[derive(Clone, Copy, PartialEq, Eq, Debug)]
 pub struct Whole {
     pub value: i64,
     // The laws of a kind speak of every value of the type, so no value of this one is outside an `i64`.
@@ -11,7 +11,7 @@ pub struct Whole {
 }
 
 // A quantity in two parts.
-#[derive(Clone, Copy)]
+#[derive(Clone, Copy, PartialEq, Eq, Debug)]
 pub struct Phasor {
     pub real: Whole,
     pub imaginary: Whole,

@@ -42,7 +42,7 @@ impl Quantity for Whole {
 
     fn multiple(self, coefficient: i32) -> Whole {
         Whole {
-            value: (coefficient as i64).wrapping_mul(self.value),
+            value: i64::from(coefficient).wrapping_mul(self.value),
         }
     }
 

@@ -6,7 +6,7 @@ ghost use Rattle.quantity_example.specs.Switches.{switches};
 use quantity::Quantity;
 
 // Whether the switch is turned over. The sum of two is one after the other: to turn twice is to leave it.
-#[derive(Clone, Copy)]
+#[derive(Clone, Copy, PartialEq, Eq, Debug)]
 pub struct Switch {
     pub turned: bool,
 }
