@@ -23,24 +23,6 @@ const DOMAINS: [u32; 6] = [
 
 const VARIABLES: usize = 20;
 
-// The value of a variable, times a coefficient.
-fn value(coefficient: i64, variable: usize) -> RawTerm {
-    RawTerm {
-        coefficient,
-        order: 0,
-        variable,
-    }
-}
-
-// The rate of a variable, times a coefficient.
-fn rate(coefficient: i64, variable: usize) -> RawTerm {
-    RawTerm {
-        coefficient,
-        order: 1,
-        variable,
-    }
-}
-
 fn draw_rows(draft: &mut Draft) -> Result<(), Refusal> {
     // The drive feeds terminal 0 against earth; its voltage is set elsewhere, so it has no law.
     draft.earth(0, 1, 0)?;
@@ -64,25 +46,25 @@ fn draw_rows(draft: &mut Draft) -> Result<(), Refusal> {
 fn draw_laws(draft: &mut Draft) -> Result<(), Refusal> {
     // The winding: voltage = 0.25 ohm * current + 0.012 henry * its rate + 1.8 volt seconds * speed.
     draft.law(&[
-        value(1000, 3),
-        value(-250, 2),
-        rate(-12, 2),
-        value(-1800, 7),
+        RawTerm::value(1000, 3),
+        RawTerm::value(-250, 2),
+        RawTerm::rate(-12, 2),
+        RawTerm::value(-1800, 7),
     ])?;
     // The return is at earth.
-    draft.law(&[value(1, 5)])?;
+    draft.law(&[RawTerm::value(1, 5)])?;
     // The motor's torque is 1.8 newton metres for each ampere, onto the shaft.
-    draft.law(&[value(10, 6), value(18, 2)])?;
+    draft.law(&[RawTerm::value(10, 6), RawTerm::value(18, 2)])?;
     // The gear turns the drum once in 20 turns of the motor, with 20 times the torque.
-    draft.law(&[value(1, 9), value(-20, 11)])?;
-    draft.law(&[value(20, 8), value(1, 10)])?;
+    draft.law(&[RawTerm::value(1, 9), RawTerm::value(-20, 11)])?;
+    draft.law(&[RawTerm::value(20, 8), RawTerm::value(1, 10)])?;
     // The drum has a radius of 0.4 metres.
-    draft.law(&[value(10, 15), value(-4, 13)])?;
-    draft.law(&[value(10, 12), value(4, 14)])?;
+    draft.law(&[RawTerm::value(10, 15), RawTerm::value(-4, 13)])?;
+    draft.law(&[RawTerm::value(10, 12), RawTerm::value(4, 14)])?;
     // The rope: its force grows by 800,000 newton for each metre, here by the rate of the force.
-    draft.law(&[rate(1, 16), value(-800000, 17)])?;
+    draft.law(&[RawTerm::rate(1, 16), RawTerm::value(-800000, 17)])?;
     // The load of 5,000 kilograms: force = mass * the rate of its speed.
-    draft.law(&[value(1, 18), rate(-5000, 19)])?;
+    draft.law(&[RawTerm::value(1, 18), RawTerm::rate(-5000, 19)])?;
     Ok(())
 }
 

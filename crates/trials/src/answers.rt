@@ -1,4 +1,4 @@
-// What a call answered, as a line: the number it gave, or the refusal's number, place and cause.
+// What a call answered, as a line: the number it gave, or the refusal.
 use netlist::refusals::Refusal;
 
 pub(crate) fn tell(
@@ -8,12 +8,7 @@ pub(crate) fn tell(
 ) -> anyhow::Result<()> {
     match answer {
         Ok(given) => println!(rt; "{call}: {given}")?,
-        Err(why) => {
-            let number = why.number();
-            let place = why.place();
-            let cause = why.cause();
-            println!(rt; "{call}: refused {number} {place} {cause}")?
-        }
+        Err(why) => println!(rt; "{call}: {why}")?,
     }
     Ok(())
 }

@@ -2,7 +2,6 @@
 use crate::answers::tell;
 use equation::lines::line;
 use equation::listing::equations;
-use netlist::refusals::Refusal;
 use netlist::spans::Span;
 use netlist::terms::{Order, Term};
 use sheet::{Draft, Sheet};
@@ -35,19 +34,15 @@ fn list(
     terms: &mut [Term],
     spans: &mut [Span],
 ) -> anyhow::Result<()> {
-    let answer = match equations(sheet, terms, spans) {
-        Ok(listing) => Ok(listing.equations),
-        Err(why) => Err(why),
-    };
-    tell(rt, "equations", answer)?;
+    let answer = equations(sheet, terms, spans);
+    tell(rt, "equations", answer.map(|listing| listing.equations))?;
     println!(rt; "{terms:?}")?;
     println!(rt; "{spans:?}")?;
     Ok(())
 }
 
 fn print(rt: &HostRuntime, sheet: &Sheet, k: usize, buffer: &mut [u8]) -> anyhow::Result<()> {
-    let answer: Result<usize, Refusal> = line(sheet, k, buffer);
-    tell(rt, "line", answer)?;
+    tell(rt, "line", line(sheet, k, buffer))?;
     rt.stdout().write_all(buffer)?;
     println!(rt; ".")?;
     Ok(())
