@@ -13,6 +13,7 @@ mod adding;
 pub mod calls;
 pub mod issued;
 mod judging;
+pub mod views;
 
 const MAX_NODES: usize = 1000;
 

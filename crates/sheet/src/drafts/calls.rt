@@ -33,7 +33,7 @@ impl Draft {
         ensures answer { result ≡ answer_node (netlist_of self.old) domain }
         ensures netlist { netlist_of self.new ≡ after_node (netlist_of self.old) domain }
     {
-        let Some(kind) = Domain::from_number(domain) else {
+        let Ok(kind) = Domain::try_from(domain) else {
             return Err(Refusal::Domain {
                 argument: Argument::Domain,
             });

@@ -5,20 +5,13 @@ ghost use Rattle.netlist.specs.Sound.{Sound};
 ghost use Rattle.sheet.specs.Held.{netlist_of, netlist_of_sheet};
 
 use crate::drafts::Draft;
+pub use crate::drafts::views::LawView;
 use netlist::rows::Row;
-use netlist::terms::Term;
 
 // A sheet moves as a draft does. There is no way back to a draft.
 #[derive(Drop)]
 pub struct Sheet {
     draft: Draft,
-}
-
-// The laws of a sheet: their terms, one law after another, and how many terms each has.
-#[derive(Clone, Copy)]
-pub struct LawView<'a> {
-    pub lengths: &'a [usize],
-    pub terms: &'a [Term],
 }
 
 impl Draft {

@@ -24,7 +24,7 @@ fn domain_at(domains: &[Domain], node: usize) -> u32
     requires { no_node (map domain_number domains.now) node ≡ false }
     ensures { result ≡ domain_of (map domain_number domains.now) node }
 {
-    domains[node].number()
+    u32::from(domains[node])
 }
 
 // Here and below `taken` has a flag for each variable.

@@ -13,7 +13,7 @@ returns-then-node-ge-MAX_NODES c =
     let d = c.args.self.now in
     let b = netlist_of d in
     let nodes = length-map d.domains.items domain_number in
-    let judged = sym (no_node_left b c.in-Some.kind c.args.domain c.in-Some.ensures (omega arith)) in
+    let judged = sym (no_node_left b c.in-Ok.kind c.args.domain c.in-Ok.ensures (omega arith)) in
     record {
       answer = ap (λ (o : Option Refusal). answer o (length b.domains)) judged;
       netlist = ap (λ (o : Option Refusal). after o b (with_nodes b (c.args.domain ∷ []))) judged;
@@ -25,10 +25,10 @@ returns c =
     let b = netlist_of d in
     let nodes = length-map d.domains.items domain_number in
     let number : c.len-node.result ≡ length b.domains = omega arith in
-    let judged = sym (node_left b c.in-Some.kind c.args.domain c.in-Some.ensures (omega arith)) in
+    let judged = sym (node_left b c.in-Ok.kind c.args.domain c.in-Ok.ensures (omega arith)) in
     record {
       answer = ap Ok number ∙ ap (λ (o : Option Refusal). answer o (length b.domains)) judged;
       netlist =
-          c.add_node.ensures ∙ ap (λ (k : ℕ). with_nodes b (k ∷ [])) c.in-Some.ensures
+          c.add_node.ensures ∙ ap (λ (k : ℕ). with_nodes b (k ∷ [])) c.in-Ok.ensures
           ∙ ap (λ (o : Option Refusal). after o b (with_nodes b (c.args.domain ∷ []))) judged;
     }

@@ -12,4 +12,4 @@ pub returns : goal.returns
 returns c =
     let within : c.args.node < length c.args.domains.now =
     omega (arith, length-map c.args.domains.now domain_number, leb-false _ _ c.requires) in
-    c.number.ensures ∙ sym (get_or-map domain_number c.args.domains.now c.args.node Electrical 0 within)
+    c.from.ensures ∙ sym (get_or-map domain_number c.args.domains.now c.args.node Electrical 0 within)
