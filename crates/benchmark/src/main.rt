@@ -5,7 +5,7 @@
 use equation::lines::line;
 use equation::listing::{equations, size};
 use netlist::spans::Span;
-use netlist::terms::{Order, RawTerm, Term};
+use netlist::terms::{RawTerm, Term};
 use sheet::{Draft, Sheet};
 use std::alloc::{AllocError, Global};
 use std::time::Instant;
@@ -23,11 +23,7 @@ fn largest(heap: Global) -> Result<Sheet, AllocError> {
         let _ = draft.branch(2 * k, 2 * k + 1, k % 1000, (k + 7) % 1000);
     }
     for k in 0..1500 {
-        let term = RawTerm {
-            coefficient: -1_000_000,
-            order: 1,
-            variable: 2 * k,
-        };
+        let term = RawTerm::rate(-1_000_000, 2 * k);
         let _ = draft.law(&[term; 4]);
     }
     Ok(draft.issue())
@@ -36,11 +32,7 @@ fn largest(heap: Global) -> Result<Sheet, AllocError> {
 // How many terms and equations are listed.
 fn list(rt: &HostRuntime, sheet: &Sheet) -> anyhow::Result<()> {
     let need = size(sheet);
-    let none = Term {
-        coefficient: 0,
-        order: Order::Value,
-        variable: 0,
-    };
+    let none = Term::value(0, 0);
     let start = Span {
         offset: 0,
         length: 0,
@@ -50,11 +42,11 @@ fn list(rt: &HostRuntime, sheet: &Sheet) -> anyhow::Result<()> {
     let began = Instant::now(rt)?;
     let listed = equations(sheet, terms.as_mut_slice(), spans.as_mut_slice());
     let took = began.elapsed(rt)?;
-    if let Ok(listing) = listed {
-        let count = listing.equations;
-        let terms = listing.terms;
-        println!(rt; "{count} equations of {terms} terms listed")?;
-    }
+    let listing = listed?;
+    println!(rt;
+        "{} equations of {} terms listed",
+        listing.equations, listing.terms
+    )?;
     eprintln!(rt; "listed in {took:?}")?;
     Ok(())
 }
@@ -66,9 +58,7 @@ fn print(rt: &HostRuntime, sheet: &Sheet) -> anyhow::Result<()> {
     let mut bytes = 0usize;
     let began = Instant::now(rt)?;
     for k in 0..count {
-        if let Ok(length) = line(sheet, k, buffer.as_mut_slice()) {
-            bytes = bytes.saturating_add(length);
-        }
+        bytes = bytes.saturating_add(line(sheet, k, buffer.as_mut_slice())?);
     }
     let took = began.elapsed(rt)?;
     println!(rt; "{bytes} bytes printed")?;

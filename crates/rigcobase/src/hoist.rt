@@ -1,24 +1,19 @@
 // A hoist as a plant sheet: the drive and the motor, its shaft, the gear, the drum, the rope and the
 // load. Its electrical circuit has two earths: the drive's output and the motor's return.
+use netlist::domains::Domain;
 use netlist::refusals::Refusal;
 use netlist::terms::RawTerm;
 use sheet::Draft;
 
-const ELECTRICAL: u32 = 1;
-
-const ROTATIONAL: u32 = 2;
-
-const TRANSLATIONAL: u32 = 3;
-
 // Nodes 0 and 1 are the motor's terminals, 2 its shaft, 3 the drum's shaft, 4 the rope at the drum and
 // 5 the load.
-const DOMAINS: [u32; 6] = [
-    ELECTRICAL,
-    ELECTRICAL,
-    ROTATIONAL,
-    ROTATIONAL,
-    TRANSLATIONAL,
-    TRANSLATIONAL,
+const DOMAINS: [Domain; 6] = [
+    Domain::Electrical,
+    Domain::Electrical,
+    Domain::Rotational,
+    Domain::Rotational,
+    Domain::Translational,
+    Domain::Translational,
 ];
 
 const VARIABLES: usize = 20;
@@ -71,7 +66,7 @@ fn draw_laws(draft: &mut Draft) -> Result<(), Refusal> {
 // Draws the hoist on an empty draft.
 pub(crate) fn draw(draft: &mut Draft) -> Result<(), Refusal> {
     for domain in DOMAINS {
-        draft.node(domain)?;
+        draft.node(u32::from(domain))?;
     }
     draft.variables(VARIABLES)?;
     draw_rows(draft)?;

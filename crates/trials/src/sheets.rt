@@ -42,7 +42,11 @@ fn edges(rt: &HostRuntime) -> anyhow::Result<()> {
     let _ = draft.node(2);
     let _ = draft.variables(2);
     let _ = draft.branch(1, 0, 1, 1);
-    let _ = draft.law(&[RawTerm::rate(-1_000_000, 1), RawTerm::value(1_000_000, 0), RawTerm::rate(7, 0)]);
+    let _ = draft.law(&[
+        RawTerm::rate(-1_000_000, 1),
+        RawTerm::value(1_000_000, 0),
+        RawTerm::rate(7, 0),
+    ]);
     print(rt, &draft.issue(), &mut [0; 64])
 }
 
