@@ -1,5 +1,6 @@
 -- How many equations and terms there are in all. Assumes nothing.
 use Rattle.std.proofs.Common.{◌≡◌, ℕ, ◌+◌, ◌<◌, ◌≤◌, ltb, ◌⊎◌, List, [], ◌∷◌, ◌++◌, map, length, Some, None, refl, ap, ⊎_elim, arith}
+use Rattle.std.specs.List.{sum_by}
 use Rattle.std.proofs.lemmas.List.FromFn.{length-map-range_with_len}
 use Rattle.std.proofs.lemmas.List.{length-append, length-map}
 use Rattle.std.proofs.lemmas.Bool.{lt-ltb, le-ltb, or_left, or_right, or_from, cond-true, cond-false}
@@ -12,7 +13,7 @@ use Rattle.netlist.specs.Sound.{Sound}
 use Rattle.equation.specs.declared.listing.Listing.{Listing}
 use Rattle.equation.specs.Equations.{node_sum, node_sums, row_equation, listed}
 use Rattle.equation.specs.Listing.{listing_of, judge_equations}
-use Rattle.equation.specs.Writing.{row_sizes}
+use Rattle.equation.specs.Writing.{row_size}
 use Rattle.equation.proofs.Sizing.{sizes_are}
 use Rattle.netlist.proofs.Joined.{joined_append}
 
@@ -47,7 +48,7 @@ module _ (laws : List (List Term)) (rows : List (Row ℕ)) (nodes variables : �
 
 -- of a sound netlist
 module _ (b : Netlist) (s : Sound b) where
-  pub terms_are : (listing_of b).terms ≡ term_count b.laws + row_sizes b.rows
+  pub terms_are : (listing_of b).terms ≡ term_count b.laws + sum_by row_size b.rows
   terms_are =
       omega (
         arith,

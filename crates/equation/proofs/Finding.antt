@@ -1,12 +1,15 @@
 -- Equation k of a list of equations, and what a buffer holds from its start. Assumes nothing.
-use Rattle.std.proofs.Common.{◌≡◌, ℕ, ◌+◌, ◌-◌, ◌<◌, ◌≤◌, List, [], ◌∷◌, ◌++◌, map, length, get_or, take, drop, Some, None, Option, sym, ap, ◌∙◌, arith}
+use Rattle.std.proofs.Common.{◌≡◌, ℕ, ◌+◌, ◌<◌, ◌≤◌, List, [], ◌∷◌, ◌++◌, map, length, get_or, take, drop, Some, None, Option, sym, ap, ◌∙◌, arith}
 use Rattle.std.specs.Option.{option_to_list}
 use Rattle.std.proofs.lemmas.List.FromFn.{length-map-range_with_len, get_or-map-range_with_len}
-use Rattle.std.proofs.lemmas.List.{get_or-append-add, get_or_append_left, get_or-map, length-append, take_at}
+use Rattle.std.proofs.lemmas.List.{get_or-append-add, get_or_append_left, get_or-map, length-append, length-drop, drop_more, take_at}
 use Rattle.netlist.specs.declared.rows.Row.{Row}
 use Rattle.netlist.specs.declared.terms.Term.{Term}
-use Rattle.netlist.specs.Buffers.{written}
-use Rattle.equation.specs.Equations.{term_at, node_sum, node_sums, row_equation, listed}
+use Rattle.netlist.specs.Buffers.{over}
+use Rattle.netlist.specs.Netlist.{Netlist}
+use Rattle.equation.specs.Equations.{term_at, node_sum, node_sums, row_equation, listed, equations_of}
+use Rattle.equation.proofs.Counting.{length_listed}
+use Rattle.equation.proofs.Putting.{Next}
 
 module _ (laws : List (List Term)) (rows : List (Row ℕ)) (nodes variables : ℕ) where
   pub law_at : (k : ℕ) → k < length laws → get_or (listed laws rows nodes variables) k [] ≡ get_or laws k []
@@ -31,6 +34,51 @@ module _ (laws : List (List Term)) (rows : List (Row ℕ)) (nodes variables : �
       ∙ get_or-append-add sums own i []
       ∙ get_or-map (row_equation variables) rows i d [] h
 
+-- Equation k of a netlist: a law, a sum at a node, or the equation of a row.
+module _ (b : Netlist) (k : ℕ) where
+  count : length (equations_of b) ≡ length b.laws + length b.domains + length b.rows
+  count = length_listed b.laws b.rows (length b.domains) b.variables
+
+  pub this_law : (laws : List (List Term)) (law : List Term) → laws ≡ b.laws → k < length laws → law ≡ get_or laws k [] → Next (equations_of b) k law
+  this_law laws law same h own =
+      let long = ap length same in
+      record {
+        within = omega (arith, count);
+        is =
+            law_at b.laws b.rows (length b.domains) b.variables k (omega arith)
+            ∙ ap (λ (ls : List (List Term)). get_or ls k []) (sym same)
+            ∙ sym own;
+      }
+
+  -- the law at which the rest of the laws begins
+  pub next_law : (law : List Term) (rest : List (List Term)) → drop k b.laws ≡ law ∷ rest → (k < length b.laws) × (drop (k + 1) b.laws ≡ rest) × Next (equations_of b) k law
+  next_law law rest h =
+      let within : k < length b.laws = omega (arith, length-drop k b.laws, ap length h) in
+      let first = drop_more b.laws k [] within in
+      let here = law_at b.laws b.rows (length b.domains) b.variables k within in
+      (within, cc, record { within = omega (arith, count); is = cc })
+
+  pub next_node : (node : ℕ) (rows : List (Row ℕ)) → node < length b.domains → rows ≡ b.rows → k ≡ length b.laws + node → Next (equations_of b) k (node_sum rows node)
+  next_node node rows h same at = record {
+    within = omega (arith, count);
+    is =
+        ap (λ (n : ℕ). get_or (equations_of b) n []) at
+        ∙ node_at b.laws b.rows (length b.domains) b.variables node h
+        ∙ ap (λ (rs : List (Row ℕ)). node_sum rs node) (sym same);
+  }
+
+  pub next_row : (i variables : ℕ) (rows : List (Row ℕ)) (d : Row ℕ) (e : List Term) → i < length rows → rows ≡ b.rows → variables ≡ b.variables → k ≡ length b.laws + (length b.domains + i) → e ≡ row_equation variables (get_or rows i d) → Next (equations_of b) k e
+  next_row i variables rows d e h same same_variables at own =
+      let long = ap length same in
+      record {
+        within = omega (arith, count);
+        is =
+            ap (λ (n : ℕ). get_or (equations_of b) n []) at
+            ∙ row_at b.laws b.rows (length b.domains) b.variables i d (omega arith)
+            ∙ (λ j. row_equation (sym same_variables j) (get_or (sym same j) i d))
+            ∙ sym own;
+      }
+
 -- a row adds at most one term to a node
 one_term : (o : Option Term) → length (option_to_list o) ≤ 1
 one_term None = omega arith
@@ -41,7 +89,5 @@ few_terms [] n = omega arith
 few_terms (row ∷ rows) n = omega (arith, length-append (option_to_list (term_at n row)) (node_sum rows n), one_term (term_at n row), few_terms rows n)
 
 -- what was written from the start on, read again
-pub read_again : {X : Type 0} (old new : List X) (n : ℕ) → n ≡ 0 + length new → take (n - 0) (written old 0 new) ≡ new
-read_again old new n is =
-    let long : length new ≡ n - 0 = omega arith in
-    take_at new (drop (0 + length new) old) (n - 0) long
+pub read_again : {X : Type 0} (old new : List X) (n : ℕ) → n ≡ length new → take n (over old new) ≡ new
+read_again old new n is = take_at new (drop (length new) old) n (sym is)

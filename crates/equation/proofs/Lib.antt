@@ -1,8 +1,8 @@
+pub mod Overs
 pub mod Summing
 pub mod Putting
 pub mod Sizing
 pub mod Counting
 pub mod Finding
 pub mod Placing
-pub mod Viewing
 pub mod Printing

@@ -6,7 +6,10 @@ use Rattle.netlist.specs.declared.refusals.Refusal.TheVariants.{NoEquation}
 use Rattle.netlist.specs.Buffers.{filled}
 use Rattle.netlist.specs.Netlist.{Netlist}
 use Rattle.netlist.specs.Rules.{answer}
+use Rattle.netlist.specs.declared.terms.Term.{Term}
+use Rattle.spelling.specs.Lines.{line_text}
 use Rattle.spelling.specs.Rules.{judge_text, answer_text}
+use Rattle.equation.proofs.Putting.{Next}
 use Rattle.equation.specs.Equations.{equations_of}
 use Rattle.equation.specs.Printing.{line_of, judge_line, answer_line, Printed}
 
@@ -26,9 +29,10 @@ module _ (b : Netlist) (k : ℕ) (old : List ℕ) where
   found : k < length (equations_of b) → judge_text old (line_of b k) ≡ judge_line b k old
   found h = sym (cond-false _ _ _ (lt-leb (length (equations_of b)) k h))
 
-  pub lined : (text : List ℕ) (answered : Result ℕ Refusal) (new : List ℕ) → k < length (equations_of b) → text ≡ line_of b k → Printed old text answered new → Lined b k old answered new
-  lined text answered new h is p =
+  pub lined : (e : List Term) (variables : ℕ) (answered : Result ℕ Refusal) (new : List ℕ) → Next (equations_of b) k e → variables ≡ b.variables → Printed old (line_text variables e) answered new → Lined b k old answered new
+  lined e variables answered new n same p =
+      let text : line_text variables e ≡ line_of b k = λ i. line_text (same i) (sym n.is i) in
       record {
-        answer = p.answer ∙ ap (answer_text old) is ∙ ap (λ (o : Option Refusal). answer o (length (line_of b k))) (found h);
-        buffer = p.buffer ∙ ap (printed old) is ∙ ap (λ (o : Option Refusal). filled o old (line_of b k)) (found h);
+        answer = p.answer ∙ ap (answer_text old) text ∙ ap (λ (o : Option Refusal). answer o (length (line_of b k))) (found n.within);
+        buffer = p.buffer ∙ ap (printed old) text ∙ ap (λ (o : Option Refusal). filled o old (line_of b k)) (found n.within);
       }

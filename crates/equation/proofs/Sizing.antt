@@ -1,8 +1,9 @@
 -- How many terms the equations have. Assumes nothing.
-use Rattle.std.proofs.Common.{◌≡◌, ℕ, zero, suc, ◌+◌, ◌<◌, ◌≤◌, Bool, true, false, cond, eqb, ltb, List, [], ◌∷◌, ◌++◌, map, length, Some, None, sym, refl, ap, ◌∙◌, ⊎_elim, arith}
-use Rattle.std.specs.List.{range_with_len, AllByRecursion}
+use Rattle.std.proofs.Common.{◌≡◌, ℕ, zero, suc, ◌+◌, ◌*◌, ◌<◌, ◌≤◌, Bool, true, false, cond, eqb, ltb, List, [], ◌∷◌, ◌++◌, map, length, Some, None, sym, refl, ap, ◌∙◌, ⊎_elim, arith}
+use Rattle.std.specs.List.{range_with_len, sum_by, AllByRecursion}
 use Rattle.std.specs.Option.{option_to_list}
 use Rattle.std.proofs.lemmas.List.{length-append}
+use Rattle.std.proofs.lemmas.List.Sums.{sum_by-cons}
 use Rattle.std.proofs.lemmas.Bool.{and_parts, ltb-true, eq-eqb, ne_eqb, cases_eq, eqb-true}
 use Rattle.netlist.specs.declared.rows.Row.{Row}
 use Rattle.netlist.specs.declared.rows.Row.TheVariants.{Branch, Earth}
@@ -11,7 +12,7 @@ use Rattle.netlist.specs.Pieces.{flat}
 use Rattle.netlist.specs.Rows.{bit}
 use Rattle.netlist.specs.Sound.{every, joins}
 use Rattle.equation.specs.Equations.{plus, minus, term_at, node_sum, node_sums, row_equation}
-use Rattle.equation.specs.Writing.{row_size, row_sizes, Numbered}
+use Rattle.equation.specs.Writing.{row_size, Numbered}
 
 -- how many of the n numbers from a on are p
 abbrev hits_from : ℕ → ℕ → ℕ → ℕ
@@ -98,17 +99,30 @@ sums_row row rows a (suc n) =
       length-append rest (flat (map (node_sum rows) (range_with_len (a + 1) n))),
     )
 
-pub sizes_are : (ds : List ℕ) (v : ℕ) (rows : List (Row ℕ)) → every (joins ds) rows ≡ true → length (flat (node_sums rows (length ds))) + length (flat (map (row_equation v) rows)) ≡ row_sizes rows
+pub sizes_are : (ds : List ℕ) (v : ℕ) (rows : List (Row ℕ)) → every (joins ds) rows ≡ true → length (flat (node_sums rows (length ds))) + length (flat (map (row_equation v) rows)) ≡ sum_by row_size rows
 sizes_are ds v [] h = omega (arith, sums_none 0 (length ds))
 sizes_are ds v (row ∷ rows) h =
     let p = and_parts (joins ds row) (every (joins ds) rows) h in
     omega (
       arith,
+      sum_by-cons row_size row rows,
       sizes_are ds v rows p.1,
       row_adds ds v row p.0,
       sums_row row rows 0 (length ds),
       length-append (row_equation v row) (flat (map (row_equation v) rows)),
     )
+
+three_or_five : (p : Bool) → cond p 3 5 ≤ 5
+three_or_five true = omega arith
+three_or_five false = omega arith
+
+small : (row : Row ℕ) → row_size row ≤ 5
+small (Branch flow across first second) = three_or_five (eqb first second)
+small (Earth flow across node) = omega arith
+
+pub few : (rows : List (Row ℕ)) → sum_by row_size rows ≤ 5 * length rows
+few [] = omega arith
+few (row ∷ rows) = omega (arith, sum_by-cons row_size row rows, small row, few rows)
 
 -- the potentials have numbers that fit
 numbered_row : (ds : List ℕ) (v : ℕ) (row : Row ℕ) → length ds ≤ 1000 → v ≤ 4000 → joins ds row ≡ true → Numbered v row

@@ -28,8 +28,8 @@ pub fn size(sheet: &Sheet) -> Listing
     let rows = sheet.rows();
     let laws = sheet.laws();
     Listing {
-        terms: laws.terms.len() + row_sizes(rows),
-        equations: laws.lengths.len() + sheet.nodes() + rows.len(),
+        terms: laws.term_count() + row_sizes(rows),
+        equations: laws.len() + sheet.nodes() + rows.len(),
     }
 }
 
@@ -41,20 +41,10 @@ pub fn equations(sheet: &Sheet, terms: &mut [Term], spans: &mut [Span]) -> Resul
     ensures spans { spans.new ≡ filled (judge_equations (netlist_of_sheet sheet.now) (length terms.old) (length spans.old)) spans.old (spans_from 0 (equations_of (netlist_of_sheet sheet.now))) }
     ensures placed { Placed (netlist_of_sheet sheet.now) }
 {
-    let rows = sheet.rows();
     let whole = size(sheet);
     if whole.terms > terms.len() || whole.equations > spans.len() {
         return Err(Refusal::ShortBuffer);
     }
-    let laws = sheet.laws();
-    put_equations(
-        laws.lengths,
-        laws.terms,
-        rows,
-        sheet.nodes(),
-        sheet.variables(),
-        terms,
-        spans,
-    );
+    put_equations(sheet, terms, spans);
     Ok(whole)
 }

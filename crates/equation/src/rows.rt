@@ -1,54 +1,49 @@
 // The equation of a row.
-ghost use Rattle.std.specs.Prelude.{◌≡◌, ◌+◌, ◌≤◌, length};
-ghost use Rattle.netlist.specs.Buffers.{written};
+ghost use Rattle.std.specs.Prelude.{◌≡◌, ◌≤◌, length, sum_by};
 ghost use Rattle.equation.specs.Equations.{row_equation};
-ghost use Rattle.equation.specs.Writing.{Numbered, row_size, row_sizes};
+ghost use Rattle.equation.specs.Writing.{Numbered, row_size, terms_of};
 
-use crate::nodes::{minus, plus};
 use netlist::rows::Row;
 use netlist::terms::Term;
 
-// Writes an equation that is at hand from `at` on, and answers where it ends.
-pub(crate) fn put_all(source: &[Term], terms: &mut [Term], at: usize) -> usize
-    requires { at + length source.now ≤ length terms.old }
-    ensures value { result ≡ at + length source.now }
-    ensures after { terms.new ≡ written terms.old at source.now }
-{
-    let mut end = at;
-    for term in source {
-        terms[end] = *term;
-        end += 1;
-    }
-    end
+// The equation of a row: three terms for a branch, two for an earth.
+#[derive(Clone, Copy)]
+pub(crate) enum RowEquation {
+    Branch([Term; 3]),
+    Earth([Term; 2]),
 }
 
-// Writes the equation of a row, of a sheet with so many variables.
-pub(crate) fn put_row(row: Row, variables: usize, terms: &mut [Term], at: usize) -> usize
-    requires room { at + length (row_equation variables row) ≤ length terms.old }
-    requires fits { Numbered variables row }
-    ensures value { result ≡ at + length (row_equation variables row) }
-    ensures after { terms.new ≡ written terms.old at (row_equation variables row) }
-{
-    match row {
-        Row::Branch {
-            across,
-            first,
-            second,
-            ..
-        } => put_all(
-            &[
-                plus(across),
-                minus(variables + first),
-                plus(variables + second),
-            ],
-            terms,
-            at,
-        ),
-        Row::Earth { across, node, .. } => put_all(
-            &[plus(across), minus(variables + node)],
-            terms,
-            at,
-        ),
+impl RowEquation {
+    // The equation of a row, of a sheet with so many variables.
+    pub(crate) fn new(row: Row, variables: usize) -> RowEquation
+        requires { Numbered variables row }
+        ensures { terms_of result ≡ row_equation variables row }
+    {
+        match row {
+            Row::Branch {
+                across,
+                first,
+                second,
+                ..
+            } => RowEquation::Branch([
+                Term::value(1, across),
+                Term::value(-1, variables + first),
+                Term::value(1, variables + second),
+            ]),
+            Row::Earth { across, node, .. } => RowEquation::Earth([
+                Term::value(1, across),
+                Term::value(-1, variables + node),
+            ]),
+        }
+    }
+
+    pub(crate) fn terms(&self) -> &[Term]
+        ensures { result.now ≡ terms_of self.now }
+    {
+        match self {
+            RowEquation::Branch(terms) => terms,
+            RowEquation::Earth(terms) => terms,
+        }
     }
 }
 
@@ -58,19 +53,16 @@ fn row_size(row: Row) -> usize
     ensures bound { result ≤ 5 }
 {
     match row {
-        Row::Branch { first, second, .. } => { if first == second { 3 } else { 5 } }
+        Row::Branch { first, second, .. } if first == second => 3,
+        Row::Branch { .. } => 5,
         Row::Earth { .. } => 3,
     }
 }
 
+// How many terms these rows bring.
 pub(crate) fn row_sizes(rows: &[Row]) -> usize
     requires { length rows.now ≤ 1500 }
-    ensures value { result ≡ row_sizes rows.now }
-    ensures bound { result ≤ 7500 }
+    ensures { result ≡ sum_by row_size rows.now }
 {
-    let mut sum = 0;
-    for row in rows {
-        sum += row_size(*row);
-    }
-    sum
+    rows.iter().map(|row| row_size(*row)).sum()
 }

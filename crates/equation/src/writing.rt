@@ -1,107 +1,94 @@
 // All equations of a sheet, written one after another.
-ghost use Rattle.std.specs.Prelude.{◌≡◌, ◌+◌, ◌≤◌, map, length};
-ghost use Rattle.std.specs.List.{AllByRecursion};
+ghost use Rattle.std.specs.Prelude.{◌≡◌, ◌+◌, ◌<◌, ◌≤◌, length, slice_set};
 ghost use Rattle.netlist.specs.Buffers.{over};
-ghost use Rattle.netlist.specs.Pieces.{total, pieces, flat};
-ghost use Rattle.equation.specs.Equations.{node_sums, row_equation, listed};
-ghost use Rattle.equation.specs.Listing.{spans_from};
-ghost use Rattle.equation.specs.Writing.{Put, Numbered};
+ghost use Rattle.netlist.specs.Pieces.{flat};
+ghost use Rattle.sheet.specs.Held.{netlist_of_sheet};
+ghost use Rattle.equation.specs.Equations.{node_sum, equations_of};
+ghost use Rattle.equation.specs.Listing.{spans_from, listing_of};
+ghost use Rattle.equation.specs.Writing.{Put};
 
 use crate::nodes::put_node;
-use crate::rows::{put_all, put_row};
+use crate::rows::RowEquation;
 use netlist::rows::Row;
 use netlist::spans::Span;
 use netlist::terms::Term;
+use sheet::Sheet;
 
-// Writes each law. The laws' terms stand one after another in `source`. Answers where the terms end.
-fn put_laws(lengths: &[usize], source: &[Term], terms: &mut [Term], spans: &mut [Span]) -> usize
-    requires cut { total lengths.now ≡ length source.now }
-    requires terms_room { length source.now ≤ length terms.old }
-    requires spans_room { length lengths.now ≤ length spans.old }
-    ensures { Put terms.old spans.old 0 0 (pieces lengths.now source.now) terms.new spans.new result }
-{
-    let mut start = 0;
-    for (i, n) in lengths.iter().enumerate() {
-        let end = put_all(&source[start..start + *n], terms, start);
-        spans[i] = Span {
-            offset: start,
-            length: *n,
-        };
-        start = end;
-    }
-    start
+// Two lent buffers, and how many terms and how many equations stand in them so far.
+#[derive(Drop)]
+struct Lister<'a> {
+    terms: &'a mut [Term],
+    spans: &'a mut [Span],
+    written: usize,
+    listed: usize,
 }
 
-// Writes the sum at each node, the terms from `at` on and the spans from `k` on.
-fn put_nodes(
-    rows: &[Row],
-    nodes: usize,
-    terms: &mut [Term],
-    spans: &mut [Span],
-    at: usize,
-    k: usize,
-) -> usize
-    requires terms_room { at + length (flat (node_sums rows.now nodes)) ≤ length terms.old }
-    requires spans_room { k + nodes ≤ length spans.old }
-    ensures { Put terms.old spans.old at k (node_sums rows.now nodes) terms.new spans.new result }
-{
-    let mut start = at;
-    for node in 0..nodes {
-        let end = put_node(rows, node, terms, start);
-        spans[k + node] = Span {
-            offset: start,
-            length: end - start,
+impl Lister<'_> {
+    // Lists the equation whose terms, so many, are written behind those of the others.
+    fn close(&mut self, count: usize)
+        requires terms_room { self.old.written + count ≤ length self.old.terms.now }
+        requires spans_room { self.old.listed < length self.old.spans.now }
+        ensures same_terms { self.new.terms.ghost_name ≡ self.old.terms.ghost_name }
+        ensures same_spans { self.new.spans.ghost_name ≡ self.old.spans.ghost_name }
+        ensures terms { self.new.terms.now ≡ self.old.terms.now }
+        ensures spans { self.new.spans.now ≡ slice_set self.old.spans.now self.old.listed (record { offset = self.old.written; length = count }) }
+        ensures written { self.new.written ≡ self.old.written + count }
+        ensures listed { self.new.listed ≡ self.old.listed + 1 }
+    {
+        self.spans[self.listed] = Span {
+            offset: self.written,
+            length: count,
         };
-        start = end;
+        self.written += count;
+        self.listed += 1;
     }
-    start
+
+    // Lists an equation that is at hand.
+    fn list(&mut self, equation: &[Term])
+        requires terms_room { self.old.written + length equation.now ≤ length self.old.terms.now }
+        requires spans_room { self.old.listed < length self.old.spans.now }
+        ensures same_terms { self.new.terms.ghost_name ≡ self.old.terms.ghost_name }
+        ensures same_spans { self.new.spans.ghost_name ≡ self.old.spans.ghost_name }
+        ensures put { Put self.old.terms.now self.old.spans.now self.old.written self.old.listed equation.now self.new.terms.now self.new.spans.now self.new.written self.new.listed }
+    {
+        self.terms[self.written..self.written + equation.len()].copy_from_slice(equation);
+        self.close(equation.len());
+    }
+
+    // Lists the sum of the flows at a node.
+    fn list_node(&mut self, rows: &[Row], node: usize)
+        requires terms_room { self.old.written + length (node_sum rows.now node) ≤ length self.old.terms.now }
+        requires spans_room { self.old.listed < length self.old.spans.now }
+        ensures same_terms { self.new.terms.ghost_name ≡ self.old.terms.ghost_name }
+        ensures same_spans { self.new.spans.ghost_name ≡ self.old.spans.ghost_name }
+        ensures put { Put self.old.terms.now self.old.spans.now self.old.written self.old.listed (node_sum rows.now node) self.new.terms.now self.new.spans.now self.new.written self.new.listed }
+    {
+        let count = put_node(rows, node, &mut self.terms[self.written..]);
+        self.close(count);
+    }
 }
 
-// Writes the equation of each row, likewise.
-fn put_rows(
-    rows: &[Row],
-    variables: usize,
-    terms: &mut [Term],
-    spans: &mut [Span],
-    at: usize,
-    k: usize,
-) -> usize
-    requires numbered { AllByRecursion (Numbered variables) rows.now }
-    requires terms_room { at + length (flat (map (row_equation variables) rows.now)) ≤ length terms.old }
-    requires spans_room { k + length rows.now ≤ length spans.old }
-    ensures { Put terms.old spans.old at k (map (row_equation variables) rows.now) terms.new spans.new result }
+// Writes all equations of a sheet from the buffers' starts on.
+pub(crate) fn put_equations(sheet: &Sheet, terms: &mut [Term], spans: &mut [Span])
+    requires terms_room { (listing_of (netlist_of_sheet sheet.now)).terms ≤ length terms.old }
+    requires spans_room { (listing_of (netlist_of_sheet sheet.now)).equations ≤ length spans.old }
+    ensures terms { terms.new ≡ over terms.old (flat (equations_of (netlist_of_sheet sheet.now))) }
+    ensures spans { spans.new ≡ over spans.old (spans_from 0 (equations_of (netlist_of_sheet sheet.now))) }
 {
-    let mut start = at;
-    for (i, row) in rows.iter().enumerate() {
-        let end = put_row(*row, variables, terms, start);
-        spans[k + i] = Span {
-            offset: start,
-            length: end - start,
-        };
-        start = end;
+    let mut lister = Lister {
+        terms,
+        spans,
+        written: 0,
+        listed: 0,
+    };
+    for law in sheet.laws() {
+        lister.list(law);
     }
-    start
-}
-
-// Writes all equations from the buffers' starts on.
-pub(crate) fn put_equations(
-    lengths: &[usize],
-    source: &[Term],
-    rows: &[Row],
-    nodes: usize,
-    variables: usize,
-    terms: &mut [Term],
-    spans: &mut [Span],
-)
-    requires cut { total lengths.now ≡ length source.now }
-    requires numbered { AllByRecursion (Numbered variables) rows.now }
-    requires terms_room { length (flat (listed (pieces lengths.now source.now) rows.now nodes variables)) ≤ length terms.old }
-    requires spans_room { length (listed (pieces lengths.now source.now) rows.now nodes variables) ≤ length spans.old }
-    ensures terms { terms.new ≡ over terms.old (flat (listed (pieces lengths.now source.now) rows.now nodes variables)) }
-    ensures spans { spans.new ≡ over spans.old (spans_from 0 (listed (pieces lengths.now source.now) rows.now nodes variables)) }
-{
-    let laws = lengths.len();
-    let at = put_laws(lengths, source, terms, spans);
-    let end = put_nodes(rows, nodes, terms, spans, at, laws);
-    let _ = put_rows(rows, variables, terms, spans, end, laws + nodes);
+    let rows = sheet.rows();
+    for node in 0..sheet.nodes() {
+        lister.list_node(rows, node);
+    }
+    for row in rows {
+        lister.list(RowEquation::new(*row, sheet.variables()).terms());
+    }
 }

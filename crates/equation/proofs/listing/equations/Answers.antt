@@ -4,12 +4,12 @@ use Rattle.netlist.specs.Buffers.{filled}
 use Rattle.netlist.specs.Pieces.{flat}
 use Rattle.netlist.specs.Rules.{answer}
 use Rattle.sheet.specs.Held.{netlist_of_sheet}
+use Rattle.sheet.proofs.Whole.{draft_sound}
 use Rattle.equation.specs.declared.listing.Listing.{Listing}
 use Rattle.equation.specs.Equations.{equations_of}
 use Rattle.equation.specs.Listing.{spans_from, listing_of}
 use Rattle.equation.proofs.Counting.{short, enough}
 use Rattle.equation.proofs.Placing.{placed}
-use Rattle.equation.proofs.Viewing.{terms_go_in, spans_go_in, terms_hold, spans_hold, rows_numbered}
 use Rattle.equation.proofs.listing.equations.Goals as goal
 
 pub returns-then-whole-terms : goal.returns-then-whole-terms
@@ -26,30 +26,13 @@ returns-then-whole-terms c =
       answer = ap (λ (o : Option Refusal). answer o (listing_of b)) judged;
       terms = ap (λ (o : Option Refusal). filled o c.args.terms.now (flat (equations_of b))) judged;
       spans = ap (λ (o : Option Refusal). filled o c.args.spans.now (spans_from 0 (equations_of b))) judged;
-      placed = placed b c.rows-rows.ensures.sound;
-    }
-
--- Counts are shown to be the sheet's by what they are, and not by the calls that gave them.
-pub put_equations-requires : goal.put_equations-requires
-put_equations-requires c =
-    let b = netlist_of_sheet c.args.sheet.now in
-    let laws = c.laws-laws.ensures.value in
-    let rows = c.rows-rows.ensures.value in
-    let size = ap (λ (w : Listing). w.terms) c.size-whole.ensures in
-    let count = ap (λ (w : Listing). w.equations) c.size-whole.ensures in
-    record {
-      cut = c.laws-laws.ensures.cut;
-      numbered = rows_numbered b _ _ c.rows-rows.ensures.sound rows (omega arith);
-      terms_room = terms_go_in b _ _ _ _ laws rows (omega arith) (omega arith) _ (omega arith);
-      spans_room = spans_go_in b _ _ _ _ laws rows (omega arith) (omega arith) _ (omega arith);
+      placed = placed b (draft_sound c.args.sheet.now.draft);
     }
 
 pub returns : goal.returns
 returns c =
     let b = netlist_of_sheet c.args.sheet.now in
     let es = equations_of b in
-    let laws = c.laws-laws.ensures.value in
-    let rows = c.rows-rows.ensures.value in
     let m = length c.args.terms.now in
     let k = length c.args.spans.now in
     let size = ap (λ (w : Listing). w.terms) c.size-whole.ensures in
@@ -59,7 +42,7 @@ returns c =
     let judged = sym (enough b m k fits many) in
     record {
       answer = ap Ok c.size-whole.ensures ∙ ap (λ (o : Option Refusal). answer o (listing_of b)) judged;
-      terms = terms_hold b _ _ _ _ laws rows (omega arith) (omega arith) _ _ c.put_equations.ensures.terms ∙ ap (λ (o : Option Refusal). filled o c.args.terms.now (flat es)) judged;
-      spans = spans_hold b _ _ _ _ laws rows (omega arith) (omega arith) _ _ c.put_equations.ensures.spans ∙ ap (λ (o : Option Refusal). filled o c.args.spans.now (spans_from 0 es)) judged;
-      placed = placed b c.rows-rows.ensures.sound;
+      terms = c.put_equations.ensures.terms ∙ ap (λ (o : Option Refusal). filled o c.args.terms.now (flat es)) judged;
+      spans = c.put_equations.ensures.spans ∙ ap (λ (o : Option Refusal). filled o c.args.spans.now (spans_from 0 es)) judged;
+      placed = placed b (draft_sound c.args.sheet.now.draft);
     }

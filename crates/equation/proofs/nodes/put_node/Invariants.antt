@@ -1,9 +1,9 @@
-use Rattle.std.proofs.Common.{◌≡◌, ◌+◌, length, take}
-use Rattle.netlist.specs.Buffers.{written}
+use Rattle.std.proofs.Common.{◌≡◌, length, take}
+use Rattle.netlist.specs.Buffers.{over}
 use Rattle.equation.specs.Equations.{node_sum}
 use Rattle.equation.proofs.nodes.put_node.Given as goal
 
-abbrev pub invariant-loop-k : goal.invariant-loop-k
-invariant-loop-k l =
-    let sum = node_sum (take l.k l.rows) l.node in
-    (l.end ≡ l.at + length sum) × (l.terms ≡ written l.initial.terms l.at sum)
+abbrev pub invariant-loop-row : goal.invariant-loop-row
+invariant-loop-row l =
+    let sum = node_sum (take l.row-index l.rows) l.node in
+    (l.count ≡ length sum) × (l.terms ≡ over l.initial.terms sum)

@@ -1,67 +1,97 @@
-use Rattle.std.proofs.Common.{◌+◌, List, ◌++◌, map, length, ap, ◌∙◌, arith, rules}
-use Rattle.std.proofs.lemmas.List.FromFn.{length-map-range_with_len}
-use Rattle.std.proofs.lemmas.List.{length-append, length-map}
-use Rattle.netlist.specs.declared.terms.Term.{Term}
-use Rattle.netlist.specs.Pieces.{pieces, flat}
-use Rattle.netlist.proofs.Buffers.{written_over}
-use Rattle.netlist.proofs.Cuts.{length_pieces, flat_pieces}
-use Rattle.equation.specs.Equations.{node_sum, node_sums, row_equation}
-use Rattle.equation.proofs.Counting.{length_listed, flat_listed}
-use Rattle.equation.proofs.Putting.{behind}
-use Rattle.netlist.proofs.Joined.{joined_append}
+use Rattle.std.proofs.Common.{ℕ, ◌≤◌, drop, length, refl, ap, ◌∙◌, arith, rules}
+use Rattle.std.proofs.lemmas.List.{length-drop}
+use Rattle.netlist.specs.declared.rows.Row.TheVariants.{Branch}
+use Rattle.sheet.specs.Held.{netlist_of_sheet}
+use Rattle.sheet.specs.Views.{laws_left}
+use Rattle.equation.specs.Equations.{equations_of}
+use Rattle.equation.proofs.Counting.{length_listed}
+use Rattle.equation.proofs.Finding.{next_law, next_node, next_row}
+use Rattle.equation.proofs.Putting.{terms_room, spans_room, one_more, all_terms, all_spans}
 use Rattle.equation.proofs.writing.put_equations.Goals as goal
 
-pub put_laws-at-requires : goal.put_laws-at-requires
-put_laws-at-requires c =
-    let laws = pieces c.args.lengths.now c.args.source.now in
-    let size = flat_listed laws c.args.rows.now c.args.nodes c.args.variables in
-    let count = length_listed laws c.args.rows.now c.args.nodes c.args.variables in
-    let law-size = ap length (flat_pieces c.args.lengths.now c.args.source.now c.requires.cut) in
-    let law_count = length_pieces c.args.lengths.now c.args.source.now in
-    record { cut = c.requires.cut; terms_room = omega arith; spans_room = omega arith }
+pub list-requires : goal.list-requires
+list-requires c =
+    let inv = c.loop-law.invariant in
+    let n = next_law (netlist_of_sheet c.args.sheet.now) c.loop-law.lister.listed c.in-Some.law.now (laws_left c.next.new.self) (inv.left ∙ c.in-Some.ensures.steps) in
+    record {
+      terms_room = terms_room inv.listed c.requires.terms_room c.requires.spans_room n.2;
+      spans_room = spans_room inv.listed c.requires.terms_room c.requires.spans_room n.2;
+    }
 
-pub put_nodes-end-requires : goal.put_nodes-end-requires
-put_nodes-end-requires c =
-    let laws = pieces c.args.lengths.now c.args.source.now in
-    let size = flat_listed laws c.args.rows.now c.args.nodes c.args.variables in
-    let count = length_listed laws c.args.rows.now c.args.nodes c.args.variables in
-    let law_count = length_pieces c.args.lengths.now c.args.source.now in
-    let kept = c.put_laws-at.auto in
-    record { terms_room = omega arith; spans_room = omega arith }
+pub loop-law-preserved : goal.loop-law-preserved
+loop-law-preserved c =
+    let b = netlist_of_sheet c.args.sheet.now in
+    let inv = c.loop-law.invariant in
+    let n = next_law b c.loop-law.lister.listed c.in-Some.law.now (laws_left c.next.new.self) (inv.left ∙ c.in-Some.ensures.steps) in
+    let put = c.list.ensures.put in
+    record {
+      can_next = tt;
+      is_finite = tt;
+      same_terms = c.list.ensures.same_terms ∙ inv.same_terms;
+      same_spans = c.list.ensures.same_spans ∙ inv.same_spans;
+      within = omega (arith, n.0, put.next_span);
+      left = ap (λ (k : ℕ). drop k b.laws) put.next_span ∙ n.1;
+      listed = one_more inv.listed c.requires.terms_room c.requires.spans_room n.2 put;
+    }
 
-pub put_rows-requires : goal.put_rows-requires
-put_rows-requires c =
-    let laws = pieces c.args.lengths.now c.args.source.now in
-    let size = flat_listed laws c.args.rows.now c.args.nodes c.args.variables in
-    let count = length_listed laws c.args.rows.now c.args.nodes c.args.variables in
-    let law_count = length_pieces c.args.lengths.now c.args.source.now in
-    record { numbered = c.requires.numbered; terms_room = omega arith; spans_room = omega arith }
+pub loop-node-init : goal.loop-node-init
+loop-node-init c =
+    let laws = (netlist_of_sheet c.args.sheet.now).laws in
+    let inv = c.loop-law.invariant in
+    record {
+      same_terms = refl;
+      same_spans = refl;
+      place = omega (arith, inv.within, length-drop c.loop-law.lister.listed laws, ap length (inv.left ∙ c.in-None.ensures.steps.0));
+      listed = inv.listed;
+    }
 
-pub overflow_add-laws : goal.overflow_add-laws
-overflow_add-laws c =
-    let laws = pieces c.args.lengths.now c.args.source.now in
-    let count = length_listed laws c.args.rows.now c.args.nodes c.args.variables in
-    let law_count = length_pieces c.args.lengths.now c.args.source.now in
-    search rules
+pub list_node-requires : goal.list_node-requires
+list_node-requires c =
+    let inv = c.loop-node.invariant in
+    let n = next_node (netlist_of_sheet c.args.sheet.now) c.loop-node.lister.listed c.loop-node.node c.rows-rows.result.now (omega (arith, c.loop-node-test.true)) c.rows-rows.ensures.value inv.place in
+    record {
+      terms_room = terms_room inv.listed c.requires.terms_room c.requires.spans_room n;
+      spans_room = spans_room inv.listed c.requires.terms_room c.requires.spans_room n;
+    }
+
+pub loop-node-preserved : goal.loop-node-preserved
+loop-node-preserved c =
+    let inv = c.loop-node.invariant in
+    let n = next_node (netlist_of_sheet c.args.sheet.now) c.loop-node.lister.listed c.loop-node.node c.rows-rows.result.now (omega (arith, c.loop-node-test.true)) c.rows-rows.ensures.value inv.place in
+    let put = c.list_node.ensures.put in
+    record {
+      same_terms = c.list_node.ensures.same_terms ∙ inv.same_terms;
+      same_spans = c.list_node.ensures.same_spans ∙ inv.same_spans;
+      place = omega (arith, inv.place, put.next_span);
+      listed = one_more inv.listed c.requires.terms_room c.requires.spans_room n put;
+    }
+
+pub list-requires-in-loop-row : goal.list-requires-in-loop-row
+list-requires-in-loop-row c =
+    let inv = c.loop-row.invariant in
+    let n = next_row (netlist_of_sheet c.args.sheet.now) c.loop-row.lister.listed c.loop-row.row-index c.variables.result c.rows-rows.result.now (Branch 0 0 0 0) c.terms.result.now c.loop-row-test.true c.rows-rows.ensures.value c.variables.ensures inv.place (c.terms.ensures ∙ c.new.ensures) in
+    record {
+      terms_room = terms_room inv.listed c.requires.terms_room c.requires.spans_room n;
+      spans_room = spans_room inv.listed c.requires.terms_room c.requires.spans_room n;
+    }
+
+pub loop-row-preserved : goal.loop-row-preserved
+loop-row-preserved c =
+    let inv = c.loop-row.invariant in
+    let n = next_row (netlist_of_sheet c.args.sheet.now) c.loop-row.lister.listed c.loop-row.row-index c.variables.result c.rows-rows.result.now (Branch 0 0 0 0) c.terms.result.now c.loop-row-test.true c.rows-rows.ensures.value c.variables.ensures inv.place (c.terms.ensures ∙ c.new.ensures) in
+    let put = c.list-in-loop-row.ensures.put in
+    record {
+      same_terms = c.list-in-loop-row.ensures.same_terms ∙ inv.same_terms;
+      same_spans = c.list-in-loop-row.ensures.same_spans ∙ inv.same_spans;
+      place = omega (arith, inv.place, put.next_span);
+      listed = one_more inv.listed c.requires.terms_room c.requires.spans_room n put;
+    }
 
 pub returns : goal.returns
 returns c =
-    let lengths = c.args.lengths.now in
-    let source = c.args.source.now in
-    let rows = c.args.rows.now in
-    let laws = pieces lengths source in
-    let sums = node_sums rows c.args.nodes in
-    let own = map (row_equation c.args.variables) rows in
-    let law_count = length_pieces lengths source in
-    let sum-count = length-map-range_with_len (node_sum rows) 0 c.args.nodes in
-    let own-count = length-map rows (row_equation c.args.variables) in
-    let both = length-append sums own in
-    let both-size = ap length (joined_append (λ (e : List Term). e) sums own) ∙ length-append (flat sums) (flat own) in
-    let size = flat_listed laws rows c.args.nodes c.args.variables in
-    let count = length_listed laws rows c.args.nodes c.args.variables in
-    let later = behind c.put_laws-at.new.terms c.put_nodes-end.new.terms c.put_rows.new.terms c.put_laws-at.new.spans c.put_nodes-end.new.spans c.put_rows.new.spans c.put_laws-at.result (length lengths) c.put_nodes-end.result (length lengths + c.args.nodes) c.put_rows.result sums own (omega arith) (omega arith) (omega arith) c.put_nodes-end.ensures c.put_rows.ensures in
-    let all = behind c.args.terms.now c.put_laws-at.new.terms c.put_rows.new.terms c.args.spans.now c.put_laws-at.new.spans c.put_rows.new.spans 0 0 c.put_laws-at.result (length lengths) c.put_rows.result laws (sums ++ own) (omega arith) (omega arith) (omega arith) c.put_laws-at.ensures later in
-    record {
-      terms = all.terms ∙ written_over c.args.terms.now _;
-      spans = all.spans ∙ written_over c.args.spans.now _;
-    }
+    let b = netlist_of_sheet c.args.sheet.now in
+    let inv = c.loop-row.invariant in
+    let every : length (equations_of b) ≤ c.loop-row.lister.listed = omega (arith, length_listed b.laws b.rows (length b.domains) b.variables, inv.place, ap length c.rows-rows.ensures.value, c.loop-row-test.false) in
+    let terms = all_terms inv.listed every in
+    let spans = all_spans inv.listed every in
+    record { terms = search (rules, terms); spans = search (rules, spans) }
