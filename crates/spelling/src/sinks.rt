@@ -1,8 +1,8 @@
 // What a text is given to, piece after piece: a count of its bytes, or a buffer. So each text is spelled
 // once, and is first measured and then written.
 ghost use Rattle.std.specs.Prelude.{◌≡◌, ℕ, ◌+◌, ◌≤◌, List, [], ◌++◌, length, ⊤};
-ghost use Rattle.spelling.specs.Sinks.{Counted, Fits, Written};
-ghost use Rattle.spelling.specs.Lawful.{written_nothing, written_both, fits_first, fits_second};
+ghost use Rattle.spelling.specs.Sinks.{Counted, HasRoom, Written};
+ghost use Rattle.spelling.specs.Lawful.{written_nothing, written_both, has_room_first, has_room_second};
 ghost use Rattle.std.proofs.Common.{arith, length-append};
 
 pub(crate) trait Sink {
@@ -61,7 +61,7 @@ pub(crate) struct Cursor<'a> {
 }
 
 impl Sink for Cursor<'_> {
-    ghost has_room = { Fits };
+    ghost has_room = { HasRoom };
 
     ghost puts = { Written };
 
@@ -69,9 +69,9 @@ impl Sink for Cursor<'_> {
 
     ghost puts_both = { written_both };
 
-    ghost room_first = { fits_first };
+    ghost room_first = { has_room_first };
 
-    ghost room_second = { fits_second };
+    ghost room_second = { has_room_second };
 
     fn put(&mut self, bytes: &[u8]) {
         let end = self.at + bytes.len();

@@ -6,7 +6,7 @@ ghost use Rattle.spelling.specs.Rules.{judge_text, answer_text};
 use crate::sinks::{Cursor, Measure, Sink};
 use netlist::refusals::Refusal;
 
-// It is put into any sink in the same way.
+// Not `Display`: no contract promises that `write!` is `Ok`, so an unlisted refusal could not be ruled out.
 pub(crate) trait Text {
     // How it is spelled.
     ghost bytes: { Self → List ℕ };
