@@ -1,5 +1,1 @@
-mod Digits
-mod Printed
-mod Putting
-mod Rests
-mod Spelled
+pub mod Rests

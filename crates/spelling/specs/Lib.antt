@@ -2,4 +2,5 @@ pub mod Quantities
 pub mod Lines
 pub mod Headers
 pub mod Rules
-pub mod Puts
+pub mod Sinks
+pub mod Lawful

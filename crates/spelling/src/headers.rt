@@ -4,15 +4,25 @@ ghost use Rattle.netlist.specs.Buffers.{filled};
 ghost use Rattle.spelling.specs.Headers.{header_text};
 ghost use Rattle.spelling.specs.Rules.{judge_text, answer_text};
 
-use crate::bytes::put_bytes;
-use crate::decimals::{digit_count, put_decimal};
+use crate::decimals::put_decimal;
+use crate::sinks::Sink;
+use crate::texts::{Text, print};
 use netlist::refusals::Refusal;
 
-// What stands before the number.
-const WORD: &[u8] = b"equations ";
+#[derive(Clone, Copy)]
+struct Header {
+    equations: usize,
+}
 
-// What stands behind it.
-const NEWLINE: &[u8] = b"\n";
+impl Text for Header {
+    ghost bytes = { λ header. header_text header.equations };
+
+    fn put_into<S: Sink>(&self, sink: &mut S) {
+        sink.put(b"equations ");
+        put_decimal(sink, self.equations);
+        sink.put(b"\n");
+    }
+}
 
 // Prints the header of `equations` equations, and answers how many bytes that took. A buffer that is
 // too short is left untouched.
@@ -20,10 +30,5 @@ pub fn write_header(equations: usize, buffer: &mut [u8]) -> Result<usize, Refusa
     ensures answer { result ≡ answer_text buffer.old (header_text equations) }
     ensures buffer { buffer.new ≡ filled (judge_text buffer.old (header_text equations)) buffer.old (header_text equations) }
 {
-    if buffer.len() < WORD.len() + digit_count(equations) + NEWLINE.len() {
-        return Err(Refusal::ShortBuffer);
-    }
-    let number = put_bytes(WORD, buffer, 0);
-    let end = put_decimal(equations, buffer, number);
-    Ok(put_bytes(NEWLINE, buffer, end))
+    print(&Header { equations }, buffer)
 }

@@ -2,10 +2,11 @@
 // caller's.
 #![tactic(auto)]
 
-mod bytes;
 mod decimals;
 pub mod headers;
 pub mod lines;
 mod quantities;
+mod sinks;
 mod sums;
 mod terms;
+mod texts;

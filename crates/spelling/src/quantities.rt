@@ -1,5 +1,5 @@
 // What a term takes times its coefficient.
-ghost use Rattle.std.specs.Prelude.{◌≡◌, [], ◌∷◌};
+ghost use Rattle.std.specs.Prelude.{◌≡◌};
 ghost use Rattle.spelling.specs.Quantities.{quantity, letter, number};
 
 use netlist::terms::{Order, Term};
@@ -31,13 +31,13 @@ impl Quantity {
         }
     }
 
-    pub(crate) fn letter(self) -> u8
-        ensures { result ∷ [] ≡ letter self }
+    pub(crate) fn letter(self) -> &'static [u8]
+        ensures { result.now ≡ letter self }
     {
         match self {
-            Quantity::Value { .. } => b'v',
-            Quantity::Rate { .. } => b'r',
-            Quantity::Potential { .. } => b'p',
+            Quantity::Value { .. } => b"v",
+            Quantity::Rate { .. } => b"r",
+            Quantity::Potential { .. } => b"p",
         }
     }
 
@@ -45,8 +45,7 @@ impl Quantity {
         ensures { result ≡ number self }
     {
         match self {
-            Quantity::Value { variable } => variable,
-            Quantity::Rate { variable } => variable,
+            Quantity::Value { variable } | Quantity::Rate { variable } => variable,
             Quantity::Potential { node } => node,
         }
     }
