@@ -5,29 +5,15 @@ use Rattle.assembly.specs.Meaning.{Meaning, Plan, size_in}
 use Rattle.layers.specs.declared.renumbering.Renumbering.{Renumbering}
 use Rattle.layers.specs.Renumbered.{moved_rows, moved_laws}
 use Rattle.layers.specs.Layer.{same_domain, domain_at}
-use Rattle.layers.specs.Two.{layer_of_two}
+use Rattle.layers.specs.Two.{layer_of_two, front_between, back_between}
 
 -- The ends stay where they are. The one part's other things come first.
 abbrev pub front_place : Size → Size → Renumbering
-front_place a b = record {
-  first = 0;
-  second = 1;
-  inner = a.inner;
-  inner_from = 2;
-  variables = a.variables;
-  variables_from = 0;
-}
+front_place a b = front_between 0 1 a
 
 -- The other part's come behind them.
 abbrev pub back_place : Size → Size → Renumbering
-back_place a b = record {
-  first = 0;
-  second = 1;
-  inner = b.inner;
-  inner_from = 2 + a.inner;
-  variables = b.variables;
-  variables_from = a.variables;
-}
+back_place a b = back_between 0 1 a b
 
 abbrev pub in_parallel : Plan → Plan → Plan
 in_parallel a b =

@@ -1,8 +1,10 @@
 -- Laws whose terms are moved. Assumes nothing.
-use Rattle.std.proofs.Common.{◌≡◌, ℕ, zero, suc, true, List, [], ◌∷◌, ◌++◌, map, length, get_or, Some, None, Option, unwrap_or, sym, refl, ap, ◌∙◌}
+use Rattle.std.proofs.Common.{◌≡◌, ℕ, zero, suc, ◌-◌, ◌≤◌, true, List, [], ◌∷◌, ◌++◌, map, length, get_or, Some, None, Option, unwrap_or, sym, refl, ap, ◌∙◌}
 use Rattle.std.specs.Option.{option_map}
 use Rattle.std.specs.List.{slice_get}
-use Rattle.std.proofs.lemmas.List.{length-map, map-append}
+use Rattle.std.proofs.lemmas.List.{length-map, map-append, get_or-append_right}
+use Rattle.std.proofs.lemmas.Option.{slice_get-map}
+use Rattle.std.proofs.Math.ListN.{get_or-map}
 use Rattle.netlist.specs.Sound.{every, is_term_count}
 use Rattle.netlist.proofs.Every.{every_append}
 use Rattle.assembly.specs.Plans.{PlanTerm}
@@ -32,6 +34,11 @@ moved_terms f laws k old j t e =
 
 pub no_terms : {X : Type 0} (laws : List (List X)) (k t : ℕ) → None ≡ slice_get laws k → None ≡ slice_get (get_or laws k []) t
 no_terms laws k t e = ap (λ o. slice_get (unwrap_or o []) t) e ∙ ap (λ xs. slice_get xs t) (sym (get_or_nth laws k))
+
+-- the terms of the second of two lists of laws
+pub terms_behind : {X Y : Type 0} (f : X → Y) (laws : List (List Y)) (old : List (List X)) (n k t : ℕ) → n ≡ length laws → n ≤ k → option_map f (slice_get (get_or old (k - n) []) t) ≡ slice_get (get_or (laws ++ map (map f) old) k []) t
+terms_behind f laws old n k t e l =
+    sym (ap (λ xs. slice_get xs t) (get_or-append_right laws (map (map f) old) n k [] (sym e) l ∙ get_or-map (map f) old (k - n) []) ∙ slice_get-map f (get_or old (k - n) []) t)
 
 -- moved laws are as long as they were
 moved_lengths : {X Y : Type 0} (f : X → Y) (laws : List (List X)) → map length (map (map f) laws) ≡ map length laws

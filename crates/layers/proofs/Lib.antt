@@ -1,5 +1,4 @@
-pub mod Counted
 pub mod Laws
 pub mod Small
 pub mod Ends
-pub mod Parts
+pub mod Halving

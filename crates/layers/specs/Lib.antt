@@ -1,3 +1,4 @@
 pub mod Renumbered
 pub mod Layer
+pub mod Joined
 pub mod Two

@@ -8,8 +8,5 @@ use netlist::domains::Domain;
 pub fn same_domain(one: Option<Domain>, other: Option<Domain>) -> bool
     ensures { result ≡ same_domain one other }
 {
-    match (one, other) {
-        (Some(d), Some(e)) => d.number() == e.number(),
-        _ => false,
-    }
+    one.is_some() && one == other
 }

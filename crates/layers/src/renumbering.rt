@@ -1,7 +1,8 @@
 // Where the nodes and variables of a part go in the layer that holds it.
-ghost use Rattle.std.specs.Prelude.{◌≡◌};
+ghost use Rattle.std.specs.Prelude.{◌≡◌, slice_index_or};
 ghost use Rattle.std.specs.Option.{option_map};
-ghost use Rattle.layers.specs.Renumbered.{moved_node, moved_variable, moved_row, moved_term};
+ghost use Rattle.std.specs.List.{range_with_len};
+ghost use Rattle.layers.specs.Renumbered.{absent, moved_node, moved_variable, moved_row, moved_term};
 
 use assembly::plans::{PlanRow, PlanTerm};
 
@@ -22,28 +23,54 @@ pub struct Renumbering {
     pub variables_from: u16,
 }
 
+// The layer's number of thing `i` of `count` things, the first of which is number `from`.
+fn shifted(i: u32, count: u16, from: u16) -> u32
+    ensures { result ≡ slice_index_or (range_with_len from count) i absent }
+{
+    if i < u32::from(count) {
+        u32::from(from) + i
+    } else {
+        ABSENT
+    }
+}
+
 impl Renumbering {
     fn node(self, number: u32) -> u32
         ensures { result ≡ moved_node self number }
     {
-        if number == 0 {
-            self.first as u32
-        } else if number == 1 {
-            self.second as u32
-        } else if number - 2 < self.inner as u32 {
-            self.inner_from as u32 + (number - 2)
-        } else {
-            ABSENT
+        match number {
+            0 => u32::from(self.first),
+            1 => u32::from(self.second),
+            _ => shifted(number - 2, self.inner, self.inner_from),
         }
     }
 
     fn variable(self, number: u32) -> u32
         ensures { result ≡ moved_variable self number }
     {
-        if number < self.variables as u32 {
-            self.variables_from as u32 + number
-        } else {
-            ABSENT
+        shifted(number, self.variables, self.variables_from)
+    }
+
+    fn moved_row(self, row: PlanRow) -> PlanRow
+        ensures { result ≡ moved_row self row }
+    {
+        match row {
+            PlanRow::Branch {
+                flow,
+                across,
+                first,
+                second,
+            } => PlanRow::Branch {
+                flow: self.variable(flow),
+                across: self.variable(across),
+                first: self.node(first),
+                second: self.node(second),
+            },
+            PlanRow::Earth { flow, across, node } => PlanRow::Earth {
+                flow: self.variable(flow),
+                across: self.variable(across),
+                node: self.node(node),
+            },
         }
     }
 
@@ -51,40 +78,16 @@ impl Renumbering {
     pub fn row(self, row: Option<PlanRow>) -> Option<PlanRow>
         ensures { result ≡ option_map (moved_row self) row }
     {
-        match row {
-            None => None,
-            Some(
-                PlanRow::Branch {
-                    flow,
-                    across,
-                    first,
-                    second,
-                },
-            ) => Some(PlanRow::Branch {
-                flow: self.variable(flow),
-                across: self.variable(across),
-                first: self.node(first),
-                second: self.node(second),
-            }),
-            Some(PlanRow::Earth { flow, across, node }) => Some(PlanRow::Earth {
-                flow: self.variable(flow),
-                across: self.variable(across),
-                node: self.node(node),
-            }),
-        }
+        row.map(|row| self.moved_row(row))
     }
 
     // The layer's term for a term of the part, where the part has it.
     pub fn term(self, term: Option<PlanTerm>) -> Option<PlanTerm>
         ensures { result ≡ option_map (moved_term self) term }
     {
-        match term {
-            None => None,
-            Some(t) => Some(PlanTerm {
-                coefficient: t.coefficient,
-                order: t.order,
-                variable: self.variable(t.variable),
-            }),
-        }
+        term.map(|term| PlanTerm {
+            variable: self.variable(term.variable),
+            ..term
+        })
     }
 }

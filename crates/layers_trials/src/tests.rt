@@ -91,14 +91,7 @@ fn series_has_a_joint(rt: HostRuntime) {
         })
     );
     assert_eq!(rt; drive.law_len(1), Some(1));
-    assert_eq!(rt;
-        drive.term(1, 0),
-        Some(PlanTerm {
-            coefficient: 5,
-            order: 1,
-            variable: 3,
-        })
-    );
+    assert_eq!(rt; drive.term(1, 0), Some(PlanTerm::rate(5, 3)));
 }
 
 #[test]

@@ -29,8 +29,7 @@ impl Assembly for Coupler {
     fn domain(&self, node: usize) -> Option<Domain> {
         match node {
             0 => Some(self.first),
-            1 => Some(self.second),
-            2 => Some(self.second),
+            1 | 2 => Some(self.second),
             _ => None,
         }
     }
@@ -53,18 +52,14 @@ impl Assembly for Coupler {
     }
 
     fn law_len(&self, k: usize) -> Option<usize> {
-        if k == 0 { Some(1) } else { None }
+        (k == 0).then_some(1)
     }
 
     fn term(&self, k: usize, t: usize) -> Option<PlanTerm> {
-        if k != 0 || t != 0 {
-            return None;
+        match (k, t) {
+            (0, 0) => Some(PlanTerm::rate(5, 1)),
+            _ => None,
         }
-        Some(PlanTerm {
-            coefficient: 5,
-            order: 1,
-            variable: 1,
-        })
     }
 }
 

@@ -1,10 +1,10 @@
 -- Each reply of copies in series, from the part's replies. Assumes nothing.
-use Rattle.std.proofs.Common.{◌≡◌, ℕ, zero, suc, ◌+◌, ◌-◌, ◌*◌, ◌<◌, ◌≤◌, Bool, true, false, cond, ◌&&◌, ◌++◌, map, length, Some, None, Option, sym, refl, ap, ◌∙◌, subst, mul-le-mul_right, arith, MatchOption}
+use Rattle.std.proofs.Common.{◌≡◌, ℕ, zero, suc, ◌+◌, ◌-◌, ◌*◌, ◌<◌, ◌≤◌, Bool, true, false, cond, ◌&&◌, List, ◌++◌, map, length, Some, None, Option, sym, refl, ap, ◌∙◌, drop, subst, mul-le-mul_right, arith}
 use Rattle.std.specs.List.{range_with_len, flat_map, slice_get}
 use Rattle.std.specs.Option.{option_map}
 use Rattle.std.proofs.lemmas.List.{length-append, length-map}
 use Rattle.std.proofs.lemmas.Option.{slice_get_past}
-use Rattle.std.proofs.lemmas.Bool.{leb-true, and_right, and_parts, both_ways, cond-false}
+use Rattle.std.proofs.lemmas.Bool.{and_right, both_ways}
 use Rattle.netlist.specs.Sound.{every, is_term_count}
 use Rattle.assembly.specs.Plans.{PlanRow}
 use Rattle.assembly.specs.Plans.{PlanTerm}
@@ -14,18 +14,22 @@ use Rattle.assembly.proofs.Nth.{nth_append_left, nth_append_right}
 use Rattle.layers.specs.declared.renumbering.Renumbering.{Renumbering}
 use Rattle.layers.specs.Layer.{is_small, second_end}
 use Rattle.layers.specs.Renumbered.{moved_row, moved_term, moved_rows, moved_laws}
-use Rattle.layers.proofs.Ends.{length_second, nth_inner, nth_joint}
+use Rattle.layers.proofs.Ends.{by_ends}
 use Rattle.layers.proofs.Laws.{mapped_length, moved_terms, no_terms, kept_lengths, joined_lengths}
 use Rattle.layers.proofs.Small.{size_with, small_bounds, small_from}
 use Rattle.repeat.specs.declared.copies.Copies.{Copies}
 use Rattle.repeat.specs.declared.copies.Spot.{Spot}
-use Rattle.repeat.specs.Repeat.{in_turn, copy_place, in_copies, is_count, meet, repeated, times_size, small_copies, Copied, Tells, Limited, IsSpot}
+use Rattle.repeat.specs.Repeat.{in_turn, copy_place, in_copies, is_count, meet, times_size, SmallCopies, Copied, Tells, IsSpot}
 use Rattle.repeat.proofs.Turns.{length_turns, nth_spot, nth_copy, nth_no_copy, turn_le}
+
+-- A part has one second end.
+one_second : (a : Plan) → Bounded a → length (second_end a) ≡ 1
+one_second a p = by_ends (λ xs. length (drop 1 xs) ≡ 1) (λ x y. refl) a.ends p.two_ends
 
 length_inner : (n : ℕ) (a : Plan) → Bounded a → length (in_copies n a).inner ≡ n * length a.inner + (n - 1)
 length_inner n a p =
     length-append (in_turn n (λ i. a.inner)) (in_turn (n - 1) (λ i. second_end a))
-    ∙ omega (arith, length_turns (λ i. a.inner) (length a.inner) (λ i. refl) n, length_turns (λ i. second_end a) 1 (λ i. length_second a.ends p.two_ends) (n - 1))
+    ∙ omega (arith, length_turns (λ i. a.inner) (length a.inner) (λ i. refl) n, length_turns (λ i. second_end a) 1 (λ i. one_second a p) (n - 1))
 
 -- What the code counts is what the layer has.
 pub size_in_copies : (n : ℕ) (a : Plan) → Bounded a → size_in (in_copies n a) ≡ times_size n (size_in a)
@@ -39,12 +43,14 @@ size_in_copies n a p =
     (λ i. size_with (p.two_ends i) (length_inner n a p i) (n * a.variables) (rows i) (laws i))
 
 -- A part that has too much makes a layer that has too much.
-pub not_small_times : (n : ℕ) (a : Size) → 1 ≤ n → is_small a ≡ false → None ≡ small_copies n a
-not_small_times n a l f = go (is_small (times_size n a)) refl
+pub not_small_times : (n : ℕ) (a : Size) → is_small a ≡ false → (is_count n && is_small (times_size n a)) ≡ false
+not_small_times zero a f = refl
+not_small_times (suc k) a f = go (is_small (times_size (suc k) a)) refl
   where
-    go : (t : Bool) → is_small (times_size n a) ≡ t → None ≡ small_copies n a
+    go : (t : Bool) → is_small (times_size (suc k) a) ≡ t → (is_count (suc k) && is_small (times_size (suc k) a)) ≡ false
     go true e =
-        let b = small_bounds (times_size n a) e in
+        let l : 1 ≤ suc k = omega arith in
+        let b = small_bounds (times_size (suc k) a) e in
         let small : is_small a ≡ true = small_from a (record {
           nodes = omega (arith, b.nodes, mul-le-mul_right a.inner l);
           variables = omega (arith, b.variables, mul-le-mul_right a.variables l);
@@ -52,45 +58,45 @@ not_small_times n a l f = go (is_small (times_size n a)) refl
           laws = omega (arith, b.laws, mul-le-mul_right a.laws l);
         }) in
         absurd (both_ways (is_small a) f small)
-    go false e = sym (cond-false _ _ _ (and_right (is_count n) _ e))
-
-abbrev copies_in : ℕ → Plan → Copies
-copies_in n a = record { part = size_in a; times = n; whole = size_in (in_copies n a) }
+    go false e = and_right (is_count (suc k)) _ e
 
 -- Where the ends meet, the code's counts decide.
-copied_in : (n : ℕ) (a : Plan) → Bounded a → (r : Option Copies) (w : Meaning) (t : Bool) → (is_count n && is_small (size_in (in_copies n a))) ≡ t → r ≡ cond t (Some (copies_in n a)) None → w ≡ cond t (plan (in_copies n a)) void → MatchOption r (w ≡ void) (Copied n (plan a) w)
-copied_in n a p r w true s er ew =
-    let both = and_parts (is_count n) (is_small (size_in (in_copies n a))) s in
-    let count = and_parts _ _ both.0 in
-    rw er (record {
+judged : (n : ℕ) (a : Plan) → Bounded a → meet (plan a) ≡ true → (r : Option Copies) → SmallCopies n (size_in a) r → Tells n (plan a) r
+judged n a p e None large =
+    ap (λ t. cond ((t && is_count n) && is_small (size_in (in_copies n a))) (plan (in_copies n a)) void) e
+    ∙ ap (λ z. cond (is_count n && is_small z) (plan (in_copies n a)) void) (size_in_copies n a p) ∙ ap (λ t. cond t (plan (in_copies n a)) void) large
+judged n a p e (Some c) are =
+    let counted = size_in_copies n a p in
+    let small : is_small (size_in (in_copies n a)) ≡ true = ap is_small (counted ∙ sym are.whole_is) ∙ are.small in
+    record {
       one = a;
       one_is = refl;
-      whole_is = ew;
-      copies_are = refl;
+      whole_is =
+          ap (λ t. cond ((t && is_count n) && is_small (size_in (in_copies n a))) (plan (in_copies n a)) void) e
+          ∙ ap (λ t. cond (t && is_small (size_in (in_copies n a))) (plan (in_copies n a)) void) are.count
+          ∙ ap (λ t. cond t (plan (in_copies n a)) void) small;
+      part_has = are.part_is;
+      times_has = are.times_is;
+      whole_has = are.whole_is ∙ sym counted;
       one_bounds = p;
-      some = leb-true _ _ count.0;
-      few = leb-true _ _ count.1;
-      small = both.1;
-    })
-copied_in n a p r w false s er ew = rw er ew
+      small = small;
+    }
 
-pub copied : (n : ℕ) (m : Meaning) {x : Size} {r : Option Copies} → Some x ≡ size_of m → Proper m → meet m ≡ true → r ≡ small_copies n x → Tells n m r
-copied n void ex p e er = let z : ◌≡◌ {A = ℕ} 0 1 = cc in absurd (omega arith)
-copied n (plan a) {x} {r} ex p e er =
-    let x-is : x ≡ size_in a = cc in
-    let counted : r ≡ cond (is_count n && is_small (size_in (in_copies n a))) (Some (copies_in n a)) None =
-    er ∙ ap (small_copies n) x-is
-    ∙ ap (λ u. cond (is_count n && is_small u) (Some (record { part = size_in a; times = n; whole = u })) None) (sym (size_in_copies n a p)) in
-    let is : repeated n (plan a) ≡ cond (is_count n && is_small (size_in (in_copies n a))) (plan (in_copies n a)) void =
-    ap (λ t. cond ((t && is_count n) && is_small (size_in (in_copies n a))) (plan (in_copies n a)) void) e in
-    copied_in n a p r _ (is_count n && is_small (size_in (in_copies n a))) refl counted is
+pub copied : (n : ℕ) (m : Meaning) {x : Size} (r : Option Copies) → Some x ≡ size_of m → Proper m → meet m ≡ true → SmallCopies n x r → Tells n m r
+copied n void r ex p e are = let z : ◌≡◌ {A = ℕ} 0 1 = cc in absurd (omega arith)
+copied n (plan a) {x} r ex p e are =
+    let x_is : x ≡ size_in a = cc in
+    judged n a p e r (subst (λ u. SmallCopies n u r) x_is are)
 
 -- What holds of a plan and its copies holds of the part and the layer.
-pub by_copies : (n : ℕ) (P : Meaning → Meaning → Copies → Type 0) → ((a : Plan) → Bounded a → 1 ≤ n → n ≤ 1000 → is_small (size_in (in_copies n a)) ≡ true → P (plan a) (plan (in_copies n a)) (copies_in n a)) → {m w : Meaning} {c : Copies} → Copied n m w c → P m w c
+pub by_copies : (n : ℕ) (P : Meaning → Meaning → Size → ℕ → Size → Type 0) → ((a : Plan) → Bounded a → is_small (size_in (in_copies n a)) ≡ true → P (plan a) (plan (in_copies n a)) (size_in a) n (size_in (in_copies n a))) → {m w : Meaning} {c : Copies} → Copied n m w c → P m w c.part c.times c.whole
 by_copies n P f {m} {w} {c} t =
-    let here = f t.one t.one_bounds t.some t.few t.small in
-    subst (λ u. P u w c) (sym t.one_is)
-    (subst (λ u. P (plan t.one) u c) (sym t.whole_is) (subst (P (plan t.one) (plan (in_copies n t.one))) (sym t.copies_are) here))
+    let a = t.one in
+    subst (λ u. P u w c.part c.times c.whole) (sym t.one_is)
+    (subst (λ u. P (plan a) u c.part c.times c.whole) (sym t.whole_is)
+    (subst (λ u. P (plan a) (plan (in_copies n a)) u c.times c.whole) (sym t.part_has)
+    (subst (λ u. P (plan a) (plan (in_copies n a)) (size_in a) u c.whole) (sym t.times_has)
+    (subst (P (plan a) (plan (in_copies n a)) (size_in a) n) (sym t.whole_has) (f a t.one_bounds t.small)))))
 
 -- The laws of all copies are as long as the part's.
 all_lengths : (n : ℕ) (a : Plan) → Bounded a → (s k : ℕ) → every is_term_count (map length (flat_map (λ i. moved_laws (copy_place (size_in a) n i) a) (range_with_len s k))) ≡ true
@@ -101,12 +107,12 @@ all_lengths n a p s (suc k) =
 
 module _ (n : ℕ) {m w : Meaning} {c : Copies} (is : Copied n m w c) where
   pub copies_size : Some c.whole ≡ size_of w
-  copies_size = by_copies n (λ m w c. Some c.whole ≡ size_of w) (λ a p l u s. refl) is
+  copies_size = by_copies n (λ m w x t z. Some z ≡ size_of w) (λ a p s. refl) is
 
   pub copies_proper : Proper w
   copies_proper =
-      by_copies n (λ m w c. Proper w)
-      (λ a p l u s.
+      by_copies n (λ m w x t z. Proper w)
+      (λ a p s.
       let t = small_bounds (size_in (in_copies n a)) s in
       record {
         two_ends = p.two_ends;
@@ -118,43 +124,28 @@ module _ (n : ℕ) {m w : Meaning} {c : Copies} (is : Copied n m w c) where
       })
       is
 
-  pub copies_limited : Limited c
-  copies_limited =
-      by_copies n (λ m w c. Limited c)
-      (λ a p l u s.
-      let t = small_bounds (times_size n (size_in a)) (ap is_small (sym (size_in_copies n a p)) ∙ s) in
-      record {
-        some = l;
-        few = u;
-        few_inner = p.few_inner;
-        all_inner = omega (arith, t.nodes);
-        few_variables = p.few_variables;
-        all_variables = t.variables;
-      })
-      is
-
 module _ (n : ℕ) {m w : Meaning} {c : Copies} (is : Copied n m w c) (k : ℕ) where
   pub row_copied : {p : Renumbering} {x r : Option PlanRow} (s : Spot) → IsSpot c.part.rows c.times k s → p ≡ copy_place c.part c.times s.copy → x ≡ slice_get (rows_of m) s.place → r ≡ option_map (moved_row p) x → r ≡ slice_get (rows_of w) k
   row_copied s at ep ex er =
       let e =
-      by_copies n (λ m w c. IsSpot c.part.rows c.times k s → slice_get (rows_of w) k ≡ option_map (moved_row (copy_place c.part c.times s.copy)) (slice_get (rows_of m) s.place))
-      (λ a p l u q. nth_copy (λ i. moved_row (copy_place (size_in a) n i)) a.rows n k s) is at in
+      by_copies n (λ m w x t z. IsSpot x.rows t k s → slice_get (rows_of w) k ≡ option_map (moved_row (copy_place x t s.copy)) (slice_get (rows_of m) s.place))
+      (λ a p q. nth_copy (λ i. moved_row (copy_place (size_in a) n i)) a.rows n k s) is at in
       cc
 
   pub row_past : c.times * c.part.rows ≤ k → None ≡ slice_get (rows_of w) k
   row_past =
-      by_copies n (λ m w c. c.times * c.part.rows ≤ k → None ≡ slice_get (rows_of w) k)
-      (λ a p l u q. nth_no_copy (λ i. moved_row (copy_place (size_in a) n i)) a.rows n k) is
+      by_copies n (λ m w x t z. t * x.rows ≤ k → None ≡ slice_get (rows_of w) k)
+      (λ a p q. nth_no_copy (λ i. moved_row (copy_place (size_in a) n i)) a.rows n k) is
 
   law_copied : (s : Spot) → IsSpot c.part.laws c.times k s → slice_get (laws_of w) k ≡ option_map (map (moved_term (copy_place c.part c.times s.copy))) (slice_get (laws_of m) s.place)
   law_copied s =
-      by_copies n (λ m w c. IsSpot c.part.laws c.times k s → slice_get (laws_of w) k ≡ option_map (map (moved_term (copy_place c.part c.times s.copy))) (slice_get (laws_of m) s.place))
-      (λ a p l u q. nth_copy (λ i. map (moved_term (copy_place (size_in a) n i))) a.laws n k s) is
+      by_copies n (λ m w x t z. IsSpot x.laws t k s → slice_get (laws_of w) k ≡ option_map (map (moved_term (copy_place x t s.copy))) (slice_get (laws_of m) s.place))
+      (λ a p q. nth_copy (λ i. map (moved_term (copy_place (size_in a) n i))) a.laws n k s) is
 
   law_past : c.times * c.part.laws ≤ k → None ≡ slice_get (laws_of w) k
   law_past =
-      by_copies n (λ m w c. c.times * c.part.laws ≤ k → None ≡ slice_get (laws_of w) k)
-      (λ a p l u q. nth_no_copy (λ i. map (moved_term (copy_place (size_in a) n i))) a.laws n k) is
+      by_copies n (λ m w x t z. t * x.laws ≤ k → None ≡ slice_get (laws_of w) k)
+      (λ a p q. nth_no_copy (λ i. map (moved_term (copy_place (size_in a) n i))) a.laws n k) is
 
   pub len_copied : (s : Spot) → IsSpot c.part.laws c.times k s → option_map length (slice_get (laws_of m) s.place) ≡ option_map length (slice_get (laws_of w) k)
   len_copied s at = sym (ap (option_map length) (law_copied s at) ∙ mapped_length _ (slice_get (laws_of m) s.place))
@@ -167,6 +158,9 @@ module _ (n : ℕ) {m w : Meaning} {c : Copies} (is : Copied n m w c) (k : ℕ) 
 
   pub term_past : (t : ℕ) → c.times * c.part.laws ≤ k → None ≡ slice_get (terms_of w k) t
   term_past t past = no_terms (laws_of w) k t (law_past past)
+
+nth_inner : {X : Type 0} (ends inner : List X) (i : ℕ) → length ends ≡ 2 → 2 ≤ i → slice_get (ends ++ inner) i ≡ slice_get inner (i - 2)
+nth_inner ends inner i e l = nth_append_right ends inner i (omega arith) ∙ ap (λ n. slice_get inner (i - n)) e
 
 -- The domain of a node of the layer.
 module _ (n : ℕ) (a : Plan) (p : Bounded a) (i : ℕ) (l : 2 ≤ i) where
@@ -183,13 +177,12 @@ module _ (n : ℕ) (a : Plan) (p : Bounded a) (i : ℕ) (l : 2 ≤ i) where
 
   inner_joint : n * length a.inner ≤ i - 2 → i - 2 < length (in_copies n a).inner → slice_get (a.ends ++ a.inner) 1 ≡ slice_get (a.ends ++ (in_copies n a).inner) i
   inner_joint past within =
-      let one = length_second a.ends p.two_ends in
       let all = length_turns (λ i. a.inner) (length a.inner) (λ i. refl) n in
       let j = i - 2 - length (in_turn n (λ i. a.inner)) in
       let at : IsSpot 1 (n - 1) j (record { copy = j; place = 0 }) =
       record { copied = omega (arith, all, length_inner n a p); inside = omega arith; is = omega arith } in
-      nth_joint a.ends a.inner p.two_ends
-      ∙ sym (inner_at ∙ nth_append_right (in_turn n (λ i. a.inner)) (in_turn (n - 1) (λ i. second_end a)) (i - 2) (omega (arith, all)) ∙ nth_spot (λ i. second_end a) 1 (λ i. one) (n - 1) j (record { copy = j; place = 0 }) at)
+      by_ends (λ xs. slice_get (xs ++ a.inner) 1 ≡ slice_get (drop 1 xs) 0) (λ x y. refl) a.ends p.two_ends
+      ∙ sym (inner_at ∙ nth_append_right (in_turn n (λ i. a.inner)) (in_turn (n - 1) (λ i. second_end a)) (i - 2) (omega (arith, all)) ∙ nth_spot (λ i. second_end a) 1 (λ i. one_second a p) (n - 1) j (record { copy = j; place = 0 }) at)
 
   inner_past : length (in_copies n a).inner ≤ i - 2 → None ≡ slice_get (a.ends ++ (in_copies n a).inner) i
   inner_past u = sym (inner_at ∙ slice_get_past (in_copies n a).inner (i - 2) u)
@@ -201,18 +194,18 @@ ends_kept n a p i l =
 
 module _ (n : ℕ) {m w : Meaning} {c : Copies} (is : Copied n m w c) (i : ℕ) where
   pub domain_end : i < 2 → slice_get (domains_of m) i ≡ slice_get (domains_of w) i
-  domain_end = by_copies n (λ m w c. i < 2 → slice_get (domains_of m) i ≡ slice_get (domains_of w) i) (λ a p l u q. ends_kept n a p i) is
+  domain_end = by_copies n (λ m w x t z. i < 2 → slice_get (domains_of m) i ≡ slice_get (domains_of w) i) (λ a p q. ends_kept n a p i) is
 
   pub domain_copied : 2 ≤ i → (s : Spot) → IsSpot c.part.inner c.times (i - 2) s → slice_get (domains_of m) (2 + s.place) ≡ slice_get (domains_of w) i
   domain_copied h s =
-      by_copies n (λ m w c. IsSpot c.part.inner c.times (i - 2) s → slice_get (domains_of m) (2 + s.place) ≡ slice_get (domains_of w) i)
-      (λ a p l u q. inner_copied n a p i h s) is
+      by_copies n (λ m w x t z. IsSpot x.inner t (i - 2) s → slice_get (domains_of m) (2 + s.place) ≡ slice_get (domains_of w) i)
+      (λ a p q. inner_copied n a p i h s) is
 
   pub domain_joint : 2 ≤ i → c.times * c.part.inner ≤ i - 2 → i - 2 < c.whole.inner → slice_get (domains_of m) 1 ≡ slice_get (domains_of w) i
   domain_joint h =
-      by_copies n (λ m w c. c.times * c.part.inner ≤ i - 2 → i - 2 < c.whole.inner → slice_get (domains_of m) 1 ≡ slice_get (domains_of w) i)
-      (λ a p l u q. inner_joint n a p i h) is
+      by_copies n (λ m w x t z. t * x.inner ≤ i - 2 → i - 2 < z.inner → slice_get (domains_of m) 1 ≡ slice_get (domains_of w) i)
+      (λ a p q. inner_joint n a p i h) is
 
   pub domain_past : 2 ≤ i → c.whole.inner ≤ i - 2 → None ≡ slice_get (domains_of w) i
   domain_past h =
-      by_copies n (λ m w c. c.whole.inner ≤ i - 2 → None ≡ slice_get (domains_of w) i) (λ a p l u q. inner_past n a p i h) is
+      by_copies n (λ m w x t z. z.inner ≤ i - 2 → None ≡ slice_get (domains_of w) i) (λ a p q. inner_past n a p i h) is

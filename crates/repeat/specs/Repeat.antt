@@ -1,5 +1,5 @@
 -- What copies of a part in series mean. Assumes nothing.
-use Rattle.std.specs.Prelude.{◌≡◌, ℕ, ◌+◌, ◌-◌, ◌*◌, ◌<◌, ◌≤◌, Bool, true, cond, ◌&&◌, List, [], ◌∷◌, ◌++◌, Some, None, Option, MatchOption, nat_le, slice_index_or}
+use Rattle.std.specs.Prelude.{◌≡◌, ℕ, ◌+◌, ◌-◌, ◌*◌, ◌<◌, Bool, true, false, ◌&&◌, List, [], ◌∷◌, ◌++◌, Option, MatchOption, nat_le, slice_index_or}
 use Rattle.std.specs.List.{range_with_len, flat_map}
 use Rattle.assembly.specs.declared.plans.Size.{Size}
 use Rattle.assembly.specs.Meaning.{Meaning, void, plan, Plan, Bounded, size_in}
@@ -63,34 +63,32 @@ times_size n a = record {
   laws = n * a.laws;
 }
 
-abbrev pub small_copies : ℕ → Size → Option Copies
-small_copies n a =
-    let w = times_size n a in
-    cond (is_count n && is_small w) (Some (record { part = a; times = n; whole = w })) None
+-- This is what n copies of a part of size a have, and it is not too much.
+pub record AreCopies (n : ℕ) (a : Size) (c : Copies) : Type 0 where
+  pub part_is : c.part ≡ a
+  pub times_is : c.times ≡ n
+  pub whole_is : c.whole ≡ times_size n a
+  pub count : is_count n ≡ true
+  pub small : is_small c.whole ≡ true
+
+-- What they have, or that there are none, or too many, or that they have too much.
+abbrev pub SmallCopies : ℕ → Size → Option Copies → Type 0
+SmallCopies n a r = MatchOption r ((is_count n && is_small (times_size n a)) ≡ false) (AreCopies n a)
 
 -- The layer w of n copies of the part m is not void, and c tells what they have.
 pub record Copied (n : ℕ) (m w : Meaning) (c : Copies) : Type 0 where
   pub one : Plan
   pub one_is : m ≡ plan one
   pub whole_is : w ≡ plan (in_copies n one)
-  pub copies_are : c ≡ record { part = size_in one; times = n; whole = size_in (in_copies n one) }
+  pub part_has : c.part ≡ size_in one
+  pub times_has : c.times ≡ n
+  pub whole_has : c.whole ≡ size_in (in_copies n one)
   pub one_bounds : Bounded one
-  pub some : 1 ≤ n
-  pub few : n ≤ 1000
   pub small : is_small (size_in (in_copies n one)) ≡ true
 
 -- What a layer of copies tells: that it is void, or what it and one copy have.
 abbrev pub Tells : ℕ → Meaning → Option Copies → Type 0
 Tells n m r = let w = repeated n m in MatchOption r (w ≡ void) (Copied n m w)
-
--- so that the layer's numbers fit sixteen bits
-pub record Limited (c : Copies) : Type 0 where
-  pub some : 1 ≤ c.times
-  pub few : c.times ≤ 1000
-  pub few_inner : c.part.inner ≤ 6000
-  pub all_inner : c.times * c.part.inner ≤ 6000
-  pub few_variables : c.part.variables ≤ 6000
-  pub all_variables : c.times * c.part.variables ≤ 6000
 
 -- Place k of n lists of one length is a place of one of them.
 pub record IsSpot (len n k : ℕ) (s : Spot) : Type 0 where

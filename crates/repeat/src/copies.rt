@@ -1,6 +1,5 @@
 // What copies have together, and where the things of each copy go.
-ghost use Rattle.std.specs.Prelude.{◌≡◌, ◌*◌, ◌<◌, ◌≤◌, MatchOption};
-ghost use Rattle.repeat.specs.Repeat.{small_copies, stop_at, copy_place, Limited, IsSpot};
+ghost use Rattle.std.specs.Prelude.{◌*◌, ◌≤◌};
 
 use assembly::plans::Size;
 use layers::renumbering::Renumbering;
@@ -8,28 +7,27 @@ use layers::sizes::is_small;
 
 const MOST: usize = 1000;
 
-// What one copy has, how many there are, and what the layer has.
+// What one copy has, how many there are, and what the layer has. Sixteen bits hold the layer's numbers.
 #[derive(Clone, Copy)]
 pub struct Copies {
     pub part: Size,
     pub times: usize,
     pub whole: Size,
-}
-
-// A place in one of the copies.
-#[derive(Clone, Copy)]
-pub struct Spot {
-    pub copy: usize,
-    pub place: usize,
+    ghost few: { times ≤ 1000 },
+    ghost few_inner: { times * part.inner ≤ 6000 },
+    ghost few_variables: { times * part.variables ≤ 6000 },
 }
 
 impl Copies {
+    ghost use Rattle.std.specs.Prelude.{◌≡◌, ◌<◌, ◌≤◌};
+    ghost use Rattle.repeat.specs.Repeat.{SmallCopies, stop_at, copy_place};
+
     // The copies together with the joints between them; `None` where there are none or too many, or the
     // layer would have too much.
     pub fn new(part: Size, times: usize) -> Option<Copies>
-        ensures { result ≡ small_copies times part }
+        ensures { SmallCopies times part result }
     {
-        if times < 1 || times > MOST {
+        if !(1..=MOST).contains(&times) {
             return None;
         }
         if !is_small(part) {
@@ -50,7 +48,7 @@ impl Copies {
 
     // The node where copy `i` begins and the copy before it ends.
     fn stop(self, i: usize) -> u16
-        requires { (Limited self) × (i ≤ self.times) }
+        requires { i ≤ self.times }
         ensures { result ≡ stop_at self.part self.times i }
     {
         if i == 0 {
@@ -64,7 +62,7 @@ impl Copies {
 
     // Where the things of copy `i` go.
     pub(crate) fn place(self, i: usize) -> Renumbering
-        requires { (Limited self) × (i < self.times) }
+        requires { i < self.times }
         ensures { result ≡ copy_place self.part self.times i }
     {
         Renumbering {
@@ -78,20 +76,25 @@ impl Copies {
     }
 }
 
+// A place in one of the copies.
+#[derive(Clone, Copy)]
+pub struct Spot {
+    pub copy: usize,
+    pub place: usize,
+}
+
 impl Spot {
+    ghost use Rattle.std.specs.Prelude.{◌*◌, ◌≤◌, MatchOption};
+    ghost use Rattle.repeat.specs.Repeat.{IsSpot};
+
     // Where place `k` of `times` lists, all of length `len`, lies.
     pub(crate) fn find(len: usize, times: usize, k: usize) -> Option<Spot>
         ensures { MatchOption result (times * len ≤ k) (IsSpot len times k) }
     {
-        if len == 0 {
-            return None;
-        }
-        let copy = k / len;
-        let place = k % len;
-        if copy < times {
-            Some(Spot { copy, place })
-        } else {
-            None
-        }
+        let copy = k.checked_div(len)?;
+        (copy < times).then_some(Spot {
+            copy,
+            place: k % len,
+        })
     }
 }

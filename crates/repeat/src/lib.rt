@@ -38,8 +38,7 @@ impl<A: Assembly> Assembly for Repeat<A> {
     ghost meaning = { λ s. repeated s.times (A.Assembly.meaning s.part) };
 
     fn size(&self) -> Option<Size> {
-        let copies = self.copies()?;
-        Some(copies.whole)
+        Some(self.copies()?.whole)
     }
 
     fn domain(&self, node: usize) -> Option<Domain> {
@@ -49,13 +48,8 @@ impl<A: Assembly> Assembly for Repeat<A> {
         }
         match Spot::find(copies.part.inner, copies.times, node - 2) {
             Some(s) => self.part.domain(2 + s.place),
-            None => {
-                if node - 2 < copies.whole.inner {
-                    self.part.domain(1)
-                } else {
-                    None
-                }
-            }
+            None if node - 2 < copies.whole.inner => self.part.domain(1),
+            None => None,
         }
     }
 

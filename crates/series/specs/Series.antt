@@ -5,7 +5,7 @@ use Rattle.assembly.specs.Meaning.{Meaning, Plan, size_in}
 use Rattle.layers.specs.declared.renumbering.Renumbering.{Renumbering}
 use Rattle.layers.specs.Renumbered.{moved_rows, moved_laws}
 use Rattle.layers.specs.Layer.{same_domain, domain_at, first_end, second_end}
-use Rattle.layers.specs.Two.{layer_of_two}
+use Rattle.layers.specs.Two.{layer_of_two, front_between, back_between}
 
 -- The joint is the layer's last inner node, behind the inner nodes of both parts.
 abbrev pub joint : Size → Size → ℕ
@@ -13,25 +13,11 @@ joint a b = 2 + a.inner + b.inner
 
 -- The first part's first end stays the first, its second is the joint; its other things come first.
 abbrev pub front_place : Size → Size → Renumbering
-front_place a b = record {
-  first = 0;
-  second = joint a b;
-  inner = a.inner;
-  inner_from = 2;
-  variables = a.variables;
-  variables_from = 0;
-}
+front_place a b = front_between 0 (joint a b) a
 
 -- The second part's first end is the joint, its second stays the second; its other things come behind.
 abbrev pub back_place : Size → Size → Renumbering
-back_place a b = record {
-  first = joint a b;
-  second = 1;
-  inner = b.inner;
-  inner_from = 2 + a.inner;
-  variables = b.variables;
-  variables_from = a.variables;
-}
+back_place a b = back_between (joint a b) 1 a b
 
 abbrev pub in_series : Plan → Plan → Plan
 in_series a b =

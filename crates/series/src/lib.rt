@@ -4,15 +4,16 @@
 // second's. It is void where a part is, where the domains that meet differ, and where it has too much.
 #![tactic(auto)]
 
-ghost use Rattle.std.specs.Prelude.{◌≡◌};
-ghost use Rattle.layers.specs.Two.{Tells, Limited};
-ghost use Rattle.series.specs.Series.{series, in_series, meet, front_place, back_place};
+ghost use Rattle.std.specs.Prelude.{◌≡◌, MatchOption};
+ghost use Rattle.assembly.specs.Meaning.{void};
+ghost use Rattle.layers.specs.Two.{Tells, Joins};
+ghost use Rattle.series.specs.Series.{series, in_series, meet, joint};
 
 use assembly::Assembly;
 use assembly::plans::{PlanRow, PlanTerm, Size};
 use layers::domains::same_domain;
 use layers::halves::Halves;
-use layers::renumbering::Renumbering;
+use layers::pair::Pair;
 use netlist::domains::Domain;
 
 #[derive(Clone, Copy)]
@@ -21,34 +22,11 @@ pub struct Series<A, B> {
     pub second: B,
 }
 
-// Where the first part's things go.
-fn front(parts: Halves) -> Renumbering
-    requires { Limited parts }
-    ensures { result ≡ front_place parts.first parts.second }
+// The joint's number: it is the last inner node.
+fn joint(parts: Halves) -> u16
+    ensures { result ≡ joint parts.first parts.second }
 {
-    Renumbering {
-        first: 0,
-        second: (2 + parts.first.inner + parts.second.inner) as u16,
-        inner: parts.first.inner as u16,
-        inner_from: 2,
-        variables: parts.first.variables as u16,
-        variables_from: 0,
-    }
-}
-
-// Where the second part's things go.
-fn back(parts: Halves) -> Renumbering
-    requires { Limited parts }
-    ensures { result ≡ back_place parts.first parts.second }
-{
-    Renumbering {
-        first: (2 + parts.first.inner + parts.second.inner) as u16,
-        second: 1,
-        inner: parts.second.inner as u16,
-        inner_from: (2 + parts.first.inner) as u16,
-        variables: parts.second.variables as u16,
-        variables_from: parts.first.variables as u16,
-    }
+    (2 + parts.first.inner + parts.second.inner) as u16
 }
 
 impl<A: Assembly, B: Assembly> Series<A, B> {
@@ -63,59 +41,51 @@ impl<A: Assembly, B: Assembly> Series<A, B> {
         }
         Halves::new(first, second, 1)
     }
+
+    // The parts in their places, or `None` where the layer is void.
+    fn pair(&self) -> Option<Pair<'_, A, B>>
+        ensures { let whole = series (A.Assembly.meaning self.now.first) (B.Assembly.meaning self.now.second) in
+            MatchOption result (whole ≡ void) (λ pair. Joins in_series (A.Assembly.meaning pair.first.now) (B.Assembly.meaning pair.second.now) whole pair.parts pair.front pair.back) }
+    {
+        let parts = self.halves()?;
+        let joint = joint(parts);
+        Some(Pair {
+            first: &self.first,
+            second: &self.second,
+            parts,
+            front: parts.front(0, joint),
+            back: parts.back(joint, 1),
+        })
+    }
 }
 
 impl<A: Assembly, B: Assembly> Assembly for Series<A, B> {
     ghost meaning = { λ s. series (A.Assembly.meaning s.first) (B.Assembly.meaning s.second) };
 
     fn size(&self) -> Option<Size> {
-        let parts = self.halves()?;
-        Some(parts.whole)
+        Some(self.halves()?.whole)
     }
 
     fn domain(&self, node: usize) -> Option<Domain> {
-        let parts = self.halves()?;
-        let behind = 2 + parts.first.inner;
-        let joint = behind + parts.second.inner;
-        if node == 0 {
-            self.first.domain(0)
-        } else if node == 1 {
-            self.second.domain(1)
-        } else if node < behind {
-            self.first.domain(node)
-        } else if node < joint {
-            self.second.domain(node - parts.first.inner)
-        } else if node == joint {
-            self.first.domain(1)
+        let pair = self.pair()?;
+        if node == 1 {
+            pair.second.domain(1)
+        } else if node == usize::from(joint(pair.parts)) {
+            pair.first.domain(1)
         } else {
-            None
+            pair.domain(node)
         }
     }
 
     fn row(&self, k: usize) -> Option<PlanRow> {
-        let parts = self.halves()?;
-        if k < parts.first.rows {
-            front(parts).row(self.first.row(k))
-        } else {
-            back(parts).row(self.second.row(k - parts.first.rows))
-        }
+        self.pair()?.row(k)
     }
 
     fn law_len(&self, k: usize) -> Option<usize> {
-        let parts = self.halves()?;
-        if k < parts.first.laws {
-            self.first.law_len(k)
-        } else {
-            self.second.law_len(k - parts.first.laws)
-        }
+        self.pair()?.law_len(k)
     }
 
     fn term(&self, k: usize, t: usize) -> Option<PlanTerm> {
-        let parts = self.halves()?;
-        if k < parts.first.laws {
-            front(parts).term(self.first.term(k, t))
-        } else {
-            back(parts).term(self.second.term(k - parts.first.laws, t))
-        }
+        self.pair()?.term(k, t)
     }
 }

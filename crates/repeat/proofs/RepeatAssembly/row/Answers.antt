@@ -1,5 +1,5 @@
 use Rattle.std.proofs.Common.{◌∙◌}
-use Rattle.repeat.proofs.InCopies.{row_copied, row_past, copies_limited}
+use Rattle.repeat.proofs.InCopies.{row_copied, row_past}
 use Rattle.repeat.proofs.RepeatAssembly.row.Goals as goal
 
 pub returns-in_err-s : goal.returns-in_err-s
@@ -11,6 +11,3 @@ pub returns : goal.returns
 returns g c =
     row_copied c.args.self.now.times c.in_ok-copies.ensures c.args.k c.in_ok-s.s c.in_ok-s.ensures
     c.place.ensures c.row.ensures c.row-2.ensures
-
-pub place-requires : goal.place-requires
-place-requires g c = (copies_limited c.args.self.now.times c.in_ok-copies.ensures, c.in_ok-s.ensures.copied)

@@ -1,5 +1,5 @@
 use Rattle.std.proofs.Common.{◌∙◌}
-use Rattle.repeat.proofs.InCopies.{term_copied, term_past, copies_limited}
+use Rattle.repeat.proofs.InCopies.{term_copied, term_past}
 use Rattle.repeat.proofs.RepeatAssembly.term.Goals as goal
 
 pub returns-in_err-s : goal.returns-in_err-s
@@ -11,6 +11,3 @@ pub returns : goal.returns
 returns g c =
     term_copied c.args.self.now.times c.in_ok-copies.ensures c.args.k c.in_ok-s.s c.args.t c.in_ok-s.ensures
     c.place.ensures c.term.ensures c.term-2.ensures
-
-pub place-requires : goal.place-requires
-place-requires g c = (copies_limited c.args.self.now.times c.in_ok-copies.ensures, c.in_ok-s.ensures.copied)

@@ -1,14 +1,13 @@
 use Rattle.std.proofs.Common.{sym, ◌∙◌}
 use Rattle.layers.specs.Layer.{same_domain}
-use Rattle.layers.proofs.Parts.{halved}
-use Rattle.series.specs.Series.{meet, in_series}
-use Rattle.series.proofs.InSeries.{size_in_series}
+use Rattle.layers.proofs.Halving.{halved}
+use Rattle.series.specs.Series.{meet}
+use Rattle.series.proofs.InSeries.{series_layout}
 use Rattle.series.proofs.Series.halves.Goals as goal
 
 pub returns : goal.returns
 returns g c =
-    halved meet in_series 1 size_in_series
-    (g.A.Assembly.meaning c.args.self.now.first) (g.B.Assembly.meaning c.args.self.now.second)
+    halved series_layout meet (g.A.Assembly.meaning c.args.self.now.first) (g.B.Assembly.meaning c.args.self.now.second) _
     c.in_ok-first.ensures.value c.in_ok-second.ensures.value
     c.in_ok-first.ensures.proper c.in_ok-second.ensures.proper
     (sym (c.if-not-same_domain.ensures ∙ (λ i. same_domain (c.domain.ensures i) (c.domain-2.ensures i))))
