@@ -3,6 +3,7 @@
 
 mod hoist;
 
+use anyhow::Context;
 use equation::lines::line;
 use equation::listing::size;
 use sheet::{Draft, Sheet};
@@ -19,15 +20,22 @@ fn drawn(heap: Global) -> anyhow::Result<Sheet> {
     Ok(draft.issue())
 }
 
+// Writes what was printed into the buffer.
+fn show(rt: &HostRuntime, buffer: &[u8], end: usize) -> anyhow::Result<()> {
+    let text = buffer.get(..end).context("a line past its buffer")?;
+    rt.stdout().write_all(text)?;
+    Ok(())
+}
+
 fn run(rt: &HostRuntime) -> anyhow::Result<()> {
     let sheet = drawn(rt.alloc())?;
     let mut buffer = vec![in rt.alloc(); 0u8; LINE_BYTES]?;
     let count = size(&sheet).equations;
     let end = write_header(count, buffer.as_mut_slice())?;
-    rt.stdout().write_all(&buffer[..end])?;
+    show(rt, buffer.as_slice(), end)?;
     for k in 0..count {
         let end = line(&sheet, k, buffer.as_mut_slice())?;
-        rt.stdout().write_all(&buffer[..end])?;
+        show(rt, buffer.as_slice(), end)?;
     }
     Ok(())
 }

@@ -1,4 +1,5 @@
 // Small sheets, and the lines that they print.
+use anyhow::Context;
 use equation::lines::line;
 use equation::listing::size;
 use netlist::terms::RawTerm;
@@ -6,13 +7,20 @@ use sheet::{Draft, Sheet};
 use spelling::headers::write_header;
 use std::io::Write;
 
+// Writes what was printed into the buffer.
+fn show(rt: &HostRuntime, buffer: &[u8], end: usize) -> anyhow::Result<()> {
+    let text = buffer.get(..end).context("a line past its buffer")?;
+    rt.stdout().write_all(text)?;
+    Ok(())
+}
+
 fn print(rt: &HostRuntime, sheet: &Sheet, buffer: &mut [u8]) -> anyhow::Result<()> {
     let count = size(sheet).equations;
     let end = write_header(count, buffer)?;
-    rt.stdout().write_all(&buffer[..end])?;
+    show(rt, buffer, end)?;
     for k in 0..count {
         let end = line(sheet, k, buffer)?;
-        rt.stdout().write_all(&buffer[..end])?;
+        show(rt, buffer, end)?;
     }
     Ok(())
 }
