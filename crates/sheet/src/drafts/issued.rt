@@ -51,9 +51,6 @@ impl Sheet {
         ensures value { pieces result.lengths.now result.terms.now ≡ (netlist_of_sheet self.now).laws }
         ensures cut { total result.lengths.now ≡ length result.terms.now }
     {
-        LawView {
-            lengths: self.draft.laws.lengths(),
-            terms: self.draft.laws.terms(),
-        }
+        self.draft.laws.view()
     }
 }
