@@ -28,6 +28,7 @@ impl Draft {
     }
 
     // Draws a node of the domain of this number, and answers the node's number.
+    #[tactic(auto, using(netlist::proofs::Rooms::no_node_left, netlist::proofs::Rooms::node_left, crate::proofs::Counts::node_count))]
     pub fn node(&mut self, domain: u32) -> Result<usize, Refusal>
         ensures answer { result ≡ answer_node (netlist_of self.old) domain }
         ensures netlist { netlist_of self.new ≡ after_node (netlist_of self.old) domain }

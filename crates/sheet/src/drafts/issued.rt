@@ -26,6 +26,7 @@ impl Draft {
 
 impl Sheet {
     // How many nodes there are.
+    #[tactic(auto, using(crate::proofs::Counts::node_count))]
     pub fn nodes(&self) -> usize
         ensures { result ≡ length (netlist_of_sheet self.now).domains }
     {

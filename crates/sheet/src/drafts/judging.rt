@@ -1,8 +1,8 @@
-// What is wrong with a row or a law, if anything is. Room in the tables of laws is judged there.
-ghost use Rattle.std.specs.Prelude.{◌≡◌, ◌≤◌, map, length, take, OnOk};
+// Rows and laws are judged before they are added. A `LawTable` judges its own room.
+ghost use Rattle.std.specs.Prelude.{◌≡◌};
 ghost use Rattle.netlist.specs.Netlist.{term_of};
 ghost use Rattle.netlist.specs.Rules.{first_of, table_term, table_law};
-ghost use Rattle.sheet.specs.Judging.{Accepts};
+ghost use Rattle.sheet.specs.Judging.{Accepts, BeginsWith};
 
 use crate::drafts::{Draft, MAX_ROWS};
 use netlist::domains::Domain;
@@ -15,13 +15,12 @@ const MAX_LENGTH: usize = 8;
 const MAX_COEFFICIENT: u64 = 1_000_000;
 
 impl Draft {
-    ghost use Rattle.std.specs.Prelude.{◌≡◌, ◌≤◌, map, length, take, OnOk};
-    ghost use Rattle.netlist.specs.Netlist.{term_of};
+    ghost use Rattle.std.specs.Prelude.{◌≡◌};
     ghost use Rattle.netlist.specs.Domains.{domain_number};
     ghost use Rattle.netlist.specs.Flags.{flag_up, flag_tests};
     ghost use Rattle.netlist.specs.Rules.{first_of, domain_of, judge_row, judge_law};
     ghost use Rattle.sheet.specs.Held.{netlist_of};
-    ghost use Rattle.sheet.specs.Judging.{Accepts, Tells, node_tests, variable_tests};
+    ghost use Rattle.sheet.specs.Judging.{Accepts, BeginsWith, Tells, node_tests, variable_tests};
 
     pub(super) fn judge_row(&self, row: Row) -> Result<(), Refusal>
         ensures { Tells (judge_row (netlist_of self.now) row) result }
@@ -35,8 +34,7 @@ impl Draft {
 
     // The terms of a law that finds room, in the first places of an array.
     pub(super) fn accept_law(&self, terms: &[RawTerm]) -> Result<[Term; MAX_LENGTH], Refusal>
-        ensures accepted { Accepts (judge_law (netlist_of self.now) terms.now) (λ law. take (length terms.now) law ≡ map term_of terms.now) result }
-        ensures fits { OnOk result (length terms.now ≤ 8) }
+        ensures { Accepts (judge_law (netlist_of self.now) terms.now) (BeginsWith terms.now) result }
     {
         let law = accept_terms(self.taken.len(), terms)?;
         self.laws.judge_room(terms.len())?;
@@ -45,7 +43,7 @@ impl Draft {
 
     // Judges the nodes and variables that a row names.
     fn judge_named(&self, row: Row) -> Result<(), Refusal>
-        ensures { Tells (first_of (flag_tests (map domain_number self.now.domains.items) self.now.taken.items row)) result }
+        ensures { Tells (first_of (flag_tests (netlist_of self.now).domains self.now.taken.items row)) result }
     {
         match row {
             Row::Branch {
@@ -72,7 +70,7 @@ impl Draft {
     }
 
     fn domain(&self, node: usize, argument: Argument) -> Result<Domain, Refusal>
-        ensures { Accepts (first_of (node_tests (map domain_number self.now.domains.items) node argument)) (λ domain. domain_of (map domain_number self.now.domains.items) node ≡ domain_number domain) result }
+        ensures { let domains = (netlist_of self.now).domains in Accepts (first_of (node_tests domains node argument)) (λ domain. domain_of domains node ≡ domain_number domain) result }
     {
         self.domains
             .get(node)
@@ -132,8 +130,7 @@ fn accept_term(variables: usize, i: usize, raw: RawTerm) -> Result<Term, Refusal
 
 // The terms of a law over so many variables, in the first places of an array, which needs no memory.
 fn accept_terms(variables: usize, terms: &[RawTerm]) -> Result<[Term; MAX_LENGTH], Refusal>
-    ensures accepted { Accepts (first_of (table_law variables terms.now)) (λ law. take (length terms.now) law ≡ map term_of terms.now) result }
-    ensures fits { OnOk result (length terms.now ≤ 8) }
+    ensures { Accepts (first_of (table_law variables terms.now)) (BeginsWith terms.now) result }
 {
     if terms.is_empty() || terms.len() > MAX_LENGTH {
         return Err(Refusal::TermCount);

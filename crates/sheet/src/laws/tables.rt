@@ -23,6 +23,7 @@ impl LawTable {
     }
 
     // How many laws there are.
+    #[tactic(auto, using(crate::proofs::Counts::law_count))]
     pub(crate) fn count(&self) -> usize
         ensures { result ≡ length (laws_of self.now) }
     {

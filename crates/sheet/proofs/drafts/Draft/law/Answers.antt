@@ -18,14 +18,14 @@ pub add_law-requires-clause-room : goal.add_law-requires-clause-room
 add_law-requires-clause-room c =
     let b = netlist_of c.args.self.now in
     let ts = c.args.terms.now in
-    let told = c.in_ok-law.ensures.accepted in
-    let long = ap length told.1 ∙ length-map ts term_of in
+    let told = c.in_ok-law.ensures in
+    let long = ap length told.1.1 ∙ length-map ts term_of in
     subst (λ (n : ℕ). first_of (room_law b.laws n) ≡ None) (sym long) (parts (table_law b.variables ts) (room_law b.laws (length ts)) told.0).1
 
 pub add_law-requires-clause-lawful : goal.add_law-requires-clause-lawful
 add_law-requires-clause-lawful c =
     let b = netlist_of c.args.self.now in
     let ts = c.args.terms.now in
-    let told = c.in_ok-law.ensures.accepted in
+    let told = c.in_ok-law.ensures in
     let passed = parts (table_law b.variables ts) (room_law b.laws (length ts)) told.0 in
-    subst (Lawful b.variables) (sym told.1) (lawful b.variables ts passed.0)
+    subst (Lawful b.variables) (sym told.1.1) (lawful b.variables ts passed.0)

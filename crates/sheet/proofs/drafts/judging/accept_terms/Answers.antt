@@ -30,8 +30,8 @@ loop-i-preserved c =
       long = length-set c.loop-i.law c.loop-i.i c.in_ok-law.field-0 ∙ inv.long;
     }
 
-pub returns-in_err-law-clause-accepted : goal.returns-in_err-law-clause-accepted
-returns-in_err-law-clause-accepted c =
+pub returns-in_err-law : goal.returns-in_err-law
+returns-in_err-law c =
     let n = c.args.variables in
     let ts = c.args.terms.now in
     let p = err_from_is_err_and c.from_residual.result c.from_residual.ensures.1 in
@@ -40,13 +40,16 @@ returns-in_err-law-clause-accepted c =
     ∙ sym c.loop-i.invariant.judged
     ∙ terms_stop n ts c.loop-i.i _ _ c.loop-i-test.true c.in_err-law.ensures)
 
-pub returns-clause-accepted : goal.returns-clause-accepted
-returns-clause-accepted c =
+pub returns : goal.returns
+returns c =
     let n = c.args.variables in
     let ts = c.args.terms.now in
     let end : length ts ≡ c.loop-i.i = omega arith in (
       law_counted n ts c.if-is_empty.ensures c.if-terms-gt-MAX_LENGTH.false
           ∙ sym c.loop-i.invariant.judged
           ∙ at_drop_all (λ (xs : List (RawTerm ℕ)). first_of (table_terms n (c.loop-i.i + 1) xs)) ts c.loop-i.i c.loop-i-test.false,
-      ap (λ (k : ℕ). take k c.loop-i.law) end ∙ c.loop-i.invariant.accepted ∙ ap (map term_of) (take_all c.loop-i.i ts c.loop-i-test.false),
+      (
+        c.if-terms-gt-MAX_LENGTH.false,
+        ap (λ (k : ℕ). take k c.loop-i.law) end ∙ c.loop-i.invariant.accepted ∙ ap (map term_of) (take_all c.loop-i.i ts c.loop-i-test.false),
+      ),
     )
