@@ -1,10 +1,13 @@
--- How many laws and terms the tables hold. Assumes nothing.
+-- How much the tables hold. Assumes nothing.
 use Rattle.std.proofs.Common.{◌≡◌, length, ◌∙◌, arith}
+use Rattle.std.proofs.lemmas.List.{length-map}
+use Rattle.netlist.specs.Domains.{domain_number}
 use Rattle.netlist.specs.Netlist.{term_count}
 use Rattle.netlist.specs.Pieces.{total}
 use Rattle.netlist.proofs.Cuts.{length_pieces, count_pieces}
+use Rattle.sheet.specs.declared.drafts.Draft.{Draft}
 use Rattle.sheet.specs.declared.laws.LawTable.{LawTable}
-use Rattle.sheet.specs.Held.{laws_of}
+use Rattle.sheet.specs.Held.{laws_of, netlist_of}
 
 module _ (t : LawTable) where
   pub table_cut : total t.lengths.items ≡ length t.terms.items
@@ -15,3 +18,6 @@ module _ (t : LawTable) where
 
   pub term_count_of : term_count (laws_of t) ≡ t.terms.len
   term_count_of = omega (arith, count_pieces t.lengths.items t.terms.items table_cut)
+
+pub node_count : (d : Draft) → length (netlist_of d).domains ≡ d.domains.len
+node_count d = omega (arith, length-map d.domains.items domain_number)

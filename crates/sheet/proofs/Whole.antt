@@ -1,6 +1,5 @@
 -- What every draft keeps to, read on its netlist. Assumes nothing.
 use Rattle.std.proofs.Common.{◌∙◌, arith}
-use Rattle.std.proofs.lemmas.List.{length-map}
 use Rattle.netlist.specs.declared.domains.Domain.{Domain}
 use Rattle.netlist.specs.Domains.{domain_number}
 use Rattle.netlist.specs.Sound.{Sound, is_domain}
@@ -10,12 +9,12 @@ use Rattle.netlist.proofs.Rooms.{domain_named}
 use Rattle.netlist.proofs.Taking.{marked_once, marked_drawn}
 use Rattle.sheet.specs.declared.drafts.Draft.{Draft}
 use Rattle.sheet.specs.Held.{netlist_of}
-use Rattle.sheet.proofs.Counts.{table_cut, law_count, term_count_of}
+use Rattle.sheet.proofs.Counts.{table_cut, law_count, term_count_of, node_count}
 
 pub draft_sound : (d : Draft) → Sound (netlist_of d)
 draft_sound d =
     let t = d.laws in
-    let nodes = length-map d.domains.items domain_number in
+    let nodes = node_count d in
     let laws = law_count t in
     let terms = term_count_of t in
     record {

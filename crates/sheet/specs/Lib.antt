@@ -1,3 +1,4 @@
 pub mod Room
 pub mod Held
+pub mod Judging
 pub mod Views

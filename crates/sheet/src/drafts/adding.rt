@@ -1,14 +1,15 @@
 // What has passed is added to a draft. Each step keeps what a draft keeps to.
-ghost use Rattle.std.specs.Prelude.{◌≡◌, ◌<◌, true, [], ◌∷◌, map, length, None, vec_len};
+ghost use Rattle.std.specs.Prelude.{◌≡◌, ◌+◌, ◌<◌, ◌≤◌, [], ◌∷◌, ◌++◌, length, None, vec_len};
 ghost use Rattle.netlist.specs.Domains.{domain_number};
-ghost use Rattle.netlist.specs.Netlist.{with_nodes, with_variables, with_rows, with_laws};
-ghost use Rattle.netlist.specs.Rules.{first_of, table_row, table_law, room_law};
+ghost use Rattle.netlist.specs.Netlist.{with_nodes, with_variables, with_rows};
+ghost use Rattle.netlist.specs.Rules.{first_of, table_row, room_law};
+ghost use Rattle.netlist.specs.Sound.{Lawful};
 ghost use Rattle.sheet.specs.Held.{netlist_of, laws_of};
 
 use crate::drafts::Draft;
 use netlist::domains::Domain;
 use netlist::rows::Row;
-use netlist::terms::RawTerm;
+use netlist::terms::Term;
 
 impl Draft {
     pub(super) fn add_node(&mut self, domain: Domain)
@@ -18,11 +19,12 @@ impl Draft {
         self.domains.push_reserved(domain);
     }
 
-    pub(super) fn add_variable(&mut self)
-        requires { vec_len self.old.taken < 4000 }
-        ensures { netlist_of self.new ≡ with_variables (netlist_of self.old) 1 }
+    pub(super) fn add_variables(&mut self, count: usize)
+        requires { vec_len self.old.taken + count ≤ 4000 }
+        ensures { netlist_of self.new ≡ with_variables (netlist_of self.old) count }
     {
-        self.taken.push_reserved(false);
+        let variables = self.taken.len() + count;
+        self.taken.resize(variables, false).unwrap();
     }
 
     pub(super) fn add_row(&mut self, row: Row)
@@ -37,11 +39,11 @@ impl Draft {
         self.taken[across] = true;
     }
 
-    pub(super) fn add_law(&mut self, terms: &[RawTerm])
-        requires room { first_of (room_law (laws_of self.old.laws) (length terms.now)) ≡ None }
-        requires passed { first_of (table_law (vec_len self.old.taken) terms.now) ≡ None }
-        ensures { netlist_of self.new ≡ with_laws (netlist_of self.old) (terms.now ∷ []) }
+    pub(super) fn add_law(&mut self, law: &[Term])
+        requires room { first_of (room_law (laws_of self.old.laws) (length law.now)) ≡ None }
+        requires lawful { Lawful (vec_len self.old.taken) law.now }
+        ensures { netlist_of self.new ≡ record (netlist_of self.old) { laws = laws_of self.old.laws ++ law.now ∷ [] } }
     {
-        self.laws.add(terms);
+        self.laws.add(law);
     }
 }

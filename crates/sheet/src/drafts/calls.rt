@@ -3,10 +3,9 @@
 ghost use Rattle.std.specs.Prelude.{◌≡◌, IfOk};
 ghost use Rattle.netlist.specs.declared.rows.Row.TheVariants.{Branch, Earth};
 ghost use Rattle.netlist.specs.Netlist.{empty};
-ghost use Rattle.netlist.specs.Rules.{answer_node, after_node, answer_variables, after_variables, judge_row, answer_row, after_row, judge_law, answer_law, after_law};
+ghost use Rattle.netlist.specs.Rules.{answer_node, after_node, answer_variables, after_variables, answer_row, after_row, answer_law, after_law};
 ghost use Rattle.sheet.specs.Held.{netlist_of};
 
-use crate::drafts::judging::{judge_law, judge_row};
 use crate::drafts::{Draft, MAX_NODES, MAX_ROWS, MAX_VARIABLES};
 use crate::laws::LawTable;
 use netlist::domains::Domain;
@@ -29,6 +28,7 @@ impl Draft {
     }
 
     // Draws a node of the domain of this number, and answers the node's number.
+    #[tactic(auto, using(netlist::proofs::Rooms::no_node_left, netlist::proofs::Rooms::node_left, crate::proofs::Counts::node_count))]
     pub fn node(&mut self, domain: u32) -> Result<usize, Refusal>
         ensures answer { result ≡ answer_node (netlist_of self.old) domain }
         ensures netlist { netlist_of self.new ≡ after_node (netlist_of self.old) domain }
@@ -59,9 +59,7 @@ impl Draft {
                 table: Table::Variables,
             });
         }
-        for _ in 0..count {
-            self.add_variable();
-        }
+        self.add_variables(count);
         Ok(first)
     }
 
@@ -96,24 +94,10 @@ impl Draft {
         ensures answer { result ≡ answer_row (netlist_of self.old) row }
         ensures netlist { netlist_of self.new ≡ after_row (netlist_of self.old) row }
     {
-        if let Some(why) = self.judge_row(row) {
-            return Err(why);
-        }
+        self.judge_row(row)?;
         let number = self.rows.len();
         self.add_row(row);
         Ok(number)
-    }
-
-    fn judge_row(&self, row: Row) -> Option<Refusal>
-        ensures { result ≡ judge_row (netlist_of self.now) row }
-    {
-        if let Some(why) = judge_row(self.domains.as_slice(), self.taken.as_slice(), row) {
-            return Some(why);
-        }
-        if self.rows.len() >= MAX_ROWS {
-            return Some(Refusal::Limit { table: Table::Rows });
-        }
-        None
     }
 
     // Adds the law that these terms add up to zero, and answers its number.
@@ -121,20 +105,9 @@ impl Draft {
         ensures answer { result ≡ answer_law (netlist_of self.old) terms.now }
         ensures netlist { netlist_of self.new ≡ after_law (netlist_of self.old) terms.now }
     {
-        if let Some(why) = self.judge_law(terms) {
-            return Err(why);
-        }
+        let law = self.accept_law(terms)?;
         let number = self.laws.count();
-        self.add_law(terms);
+        self.add_law(&law[..terms.len()]);
         Ok(number)
-    }
-
-    fn judge_law(&self, terms: &[RawTerm]) -> Option<Refusal>
-        ensures { result ≡ judge_law (netlist_of self.now) terms.now }
-    {
-        if let Some(why) = judge_law(self.taken.len(), terms) {
-            return Some(why);
-        }
-        self.laws.judge_room(terms.len())
     }
 }

@@ -26,6 +26,7 @@ impl Draft {
 
 impl Sheet {
     // How many nodes there are.
+    #[tactic(auto, using(crate::proofs::Counts::node_count))]
     pub fn nodes(&self) -> usize
         ensures { result ≡ length (netlist_of_sheet self.now).domains }
     {
@@ -51,9 +52,6 @@ impl Sheet {
         ensures value { pieces result.lengths.now result.terms.now ≡ (netlist_of_sheet self.now).laws }
         ensures cut { total result.lengths.now ≡ length result.terms.now }
     {
-        LawView {
-            lengths: self.draft.laws.lengths(),
-            terms: self.draft.laws.terms(),
-        }
+        self.draft.laws.view()
     }
 }

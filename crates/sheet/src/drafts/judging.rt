@@ -1,167 +1,143 @@
-// What is wrong with a row or a law, apart from want of room.
-ghost use Rattle.std.specs.Prelude.{◌≡◌, false, map};
-ghost use Rattle.netlist.specs.declared.rows.Row.TheVariants.{Branch, Earth};
-ghost use Rattle.netlist.specs.Domains.{domain_number};
-ghost use Rattle.netlist.specs.Flags.{flag_tests};
-ghost use Rattle.netlist.specs.Rules.{first_of, no_node, domain_of, table_term, table_terms, table_law};
+// Rows and laws are judged before they are added. A `LawTable` judges its own room.
+ghost use Rattle.std.specs.Prelude.{◌≡◌};
+ghost use Rattle.netlist.specs.Netlist.{term_of};
+ghost use Rattle.netlist.specs.Rules.{first_of, table_term, table_law};
+ghost use Rattle.sheet.specs.Judging.{Accepts, BeginsWith};
 
+use crate::drafts::{Draft, MAX_ROWS};
 use netlist::domains::Domain;
-use netlist::refusals::{Argument, Refusal};
+use netlist::refusals::{Argument, Refusal, Table};
 use netlist::rows::Row;
-use netlist::terms::RawTerm;
+use netlist::terms::{Order, RawTerm, Term};
 
 const MAX_LENGTH: usize = 8;
 
 const MAX_COEFFICIENT: u64 = 1_000_000;
 
-fn no_node(domains: &[Domain], node: usize) -> bool
-    ensures { result ≡ no_node (map domain_number domains.now) node }
-{
-    node >= domains.len()
-}
+impl Draft {
+    ghost use Rattle.std.specs.Prelude.{◌≡◌};
+    ghost use Rattle.netlist.specs.Domains.{domain_number};
+    ghost use Rattle.netlist.specs.Flags.{flag_up, flag_tests};
+    ghost use Rattle.netlist.specs.Rules.{first_of, domain_of, judge_row, judge_law};
+    ghost use Rattle.sheet.specs.Held.{netlist_of};
+    ghost use Rattle.sheet.specs.Judging.{Accepts, BeginsWith, Tells, node_tests, variable_tests};
 
-fn domain_at(domains: &[Domain], node: usize) -> u32
-    requires { no_node (map domain_number domains.now) node ≡ false }
-    ensures { result ≡ domain_of (map domain_number domains.now) node }
-{
-    u32::from(domains[node])
-}
+    pub(super) fn judge_row(&self, row: Row) -> Result<(), Refusal>
+        ensures { Tells (judge_row (netlist_of self.now) row) result }
+    {
+        self.judge_named(row)?;
+        if self.rows.len() >= MAX_ROWS {
+            return Err(Refusal::Limit { table: Table::Rows });
+        }
+        Ok(())
+    }
 
-// Here and below `taken` has a flag for each variable.
-fn judge_branch(
-    domains: &[Domain],
-    taken: &[bool],
-    flow: usize,
-    across: usize,
-    first: usize,
-    second: usize,
-) -> Option<Refusal>
-    ensures { result ≡ first_of (flag_tests (map domain_number domains.now) taken.now (Branch flow across first second)) }
-{
-    if no_node(domains, first) {
-        return Some(Refusal::NoNode {
-            argument: Argument::First,
-        });
+    // The terms of a law that finds room, in the first places of an array.
+    pub(super) fn accept_law(&self, terms: &[RawTerm]) -> Result<[Term; MAX_LENGTH], Refusal>
+        ensures { Accepts (judge_law (netlist_of self.now) terms.now) (BeginsWith terms.now) result }
+    {
+        let law = accept_terms(self.taken.len(), terms)?;
+        self.laws.judge_room(terms.len())?;
+        Ok(law)
     }
-    if no_node(domains, second) {
-        return Some(Refusal::NoNode {
-            argument: Argument::Second,
-        });
-    }
-    if flow >= taken.len() {
-        return Some(Refusal::NoVariable {
-            argument: Argument::Flow,
-        });
-    }
-    if across >= taken.len() {
-        return Some(Refusal::NoVariable {
-            argument: Argument::Across,
-        });
-    }
-    if taken[flow] {
-        return Some(Refusal::Taken {
-            argument: Argument::Flow,
-        });
-    }
-    if taken[across] || across == flow {
-        return Some(Refusal::Taken {
-            argument: Argument::Across,
-        });
-    }
-    if domain_at(domains, first) != domain_at(domains, second) {
-        return Some(Refusal::Domain {
-            argument: Argument::Second,
-        });
-    }
-    None
-}
 
-fn judge_earth(
-    domains: &[Domain],
-    taken: &[bool],
-    flow: usize,
-    across: usize,
-    node: usize,
-) -> Option<Refusal>
-    ensures { result ≡ first_of (flag_tests (map domain_number domains.now) taken.now (Earth flow across node)) }
-{
-    if no_node(domains, node) {
-        return Some(Refusal::NoNode {
-            argument: Argument::Node,
-        });
+    // Judges the nodes and variables that a row names.
+    fn judge_named(&self, row: Row) -> Result<(), Refusal>
+        ensures { Tells (first_of (flag_tests (netlist_of self.now).domains self.now.taken.items row)) result }
+    {
+        match row {
+            Row::Branch {
+                flow,
+                across,
+                first,
+                second,
+            } => {
+                let first = self.domain(first, Argument::First)?;
+                let second = self.domain(second, Argument::Second)?;
+                self.judge_variables(flow, across)?;
+                if first != second {
+                    return Err(Refusal::Domain {
+                        argument: Argument::Second,
+                    });
+                }
+                Ok(())
+            }
+            Row::Earth { flow, across, node } => {
+                self.domain(node, Argument::Node)?;
+                self.judge_variables(flow, across)
+            }
+        }
     }
-    if flow >= taken.len() {
-        return Some(Refusal::NoVariable {
-            argument: Argument::Flow,
-        });
-    }
-    if across >= taken.len() {
-        return Some(Refusal::NoVariable {
-            argument: Argument::Across,
-        });
-    }
-    if taken[flow] {
-        return Some(Refusal::Taken {
-            argument: Argument::Flow,
-        });
-    }
-    if taken[across] || across == flow {
-        return Some(Refusal::Taken {
-            argument: Argument::Across,
-        });
-    }
-    None
-}
 
-pub(super) fn judge_row(domains: &[Domain], taken: &[bool], row: Row) -> Option<Refusal>
-    ensures { result ≡ first_of (flag_tests (map domain_number domains.now) taken.now row) }
-{
-    match row {
-        Row::Branch {
-            flow,
-            across,
-            first,
-            second,
-        } => judge_branch(domains, taken, flow, across, first, second),
-        Row::Earth { flow, across, node } => judge_earth(domains, taken, flow, across, node),
+    fn domain(&self, node: usize, argument: Argument) -> Result<Domain, Refusal>
+        ensures { let domains = (netlist_of self.now).domains in Accepts (first_of (node_tests domains node argument)) (λ domain. domain_of domains node ≡ domain_number domain) result }
+    {
+        self.domains
+            .get(node)
+            .copied()
+            .ok_or(Refusal::NoNode { argument })
+    }
+
+    fn judge_variables(&self, flow: usize, across: usize) -> Result<(), Refusal>
+        ensures { Tells (first_of (variable_tests self.now.taken.len (flag_up self.now.taken.items) flow across)) result }
+    {
+        if flow >= self.taken.len() {
+            return Err(Refusal::NoVariable {
+                argument: Argument::Flow,
+            });
+        }
+        if across >= self.taken.len() {
+            return Err(Refusal::NoVariable {
+                argument: Argument::Across,
+            });
+        }
+        if self.taken[flow] {
+            return Err(Refusal::Taken {
+                argument: Argument::Flow,
+            });
+        }
+        if self.taken[across] || across == flow {
+            return Err(Refusal::Taken {
+                argument: Argument::Across,
+            });
+        }
+        Ok(())
     }
 }
 
-// Judges term `i`, counted from 1, over so many variables.
-fn judge_term(variables: usize, i: usize, term: RawTerm) -> Option<Refusal>
-    ensures { result ≡ first_of (table_term variables i term) }
+// The term that a raw term stands for, as term `i` of a law, counted from 1, over so many variables.
+fn accept_term(variables: usize, i: usize, raw: RawTerm) -> Result<Term, Refusal>
+    ensures { Accepts (first_of (table_term variables i raw)) (λ term. term ≡ term_of raw) result }
 {
-    let size = term.coefficient.unsigned_abs();
+    let size = raw.coefficient.unsigned_abs();
     if size == 0 || size > MAX_COEFFICIENT {
-        return Some(Refusal::Coefficient { term: i });
+        return Err(Refusal::Coefficient { term: i });
     }
-    if term.order > 1 {
-        return Some(Refusal::Order { term: i });
-    }
-    if term.variable >= variables {
-        return Some(Refusal::NoVariable {
+    let Ok(order) = Order::try_from(raw.order) else {
+        return Err(Refusal::Order { term: i });
+    };
+    if raw.variable >= variables {
+        return Err(Refusal::NoVariable {
             argument: Argument::Term { term: i },
         });
     }
-    None
+    Ok(Term {
+        coefficient: raw.coefficient as i32,
+        order,
+        variable: raw.variable,
+    })
 }
 
-fn judge_terms(variables: usize, terms: &[RawTerm]) -> Option<Refusal>
-    ensures { result ≡ first_of (table_terms variables 1 terms.now) }
-{
-    for (i, term) in terms.iter().enumerate() {
-        if let Some(why) = judge_term(variables, i + 1, *term) {
-            return Some(why);
-        }
-    }
-    None
-}
-
-pub(super) fn judge_law(variables: usize, terms: &[RawTerm]) -> Option<Refusal>
-    ensures { result ≡ first_of (table_law variables terms.now) }
+// The terms of a law over so many variables, in the first places of an array, which needs no memory.
+fn accept_terms(variables: usize, terms: &[RawTerm]) -> Result<[Term; MAX_LENGTH], Refusal>
+    ensures { Accepts (first_of (table_law variables terms.now)) (BeginsWith terms.now) result }
 {
     if terms.is_empty() || terms.len() > MAX_LENGTH {
-        return Some(Refusal::TermCount);
+        return Err(Refusal::TermCount);
     }
-    judge_terms(variables, terms)
+    let mut law = [Term::value(0, 0); MAX_LENGTH];
+    for (i, raw) in terms.iter().enumerate() {
+        law[i] = accept_term(variables, i + 1, *raw)?;
+    }
+    Ok(law)
 }

@@ -1,7 +1,6 @@
-use Rattle.std.proofs.Common.{◌≡◌, ℕ, true, List, map, ap, ◌∙◌, arith}
+use Rattle.std.proofs.Common.{ℕ, List, map, ap, ◌∙◌, arith}
 use Rattle.std.proofs.lemmas.List.{map_push}
 use Rattle.netlist.specs.Domains.{domain_number}
-use Rattle.netlist.specs.Sound.{every, joins}
 use Rattle.netlist.proofs.Joining.{all_join_node}
 use Rattle.sheet.specs.Held.{netlist_of}
 use Rattle.sheet.proofs.drafts.Draft.add_node.Goals as goal
@@ -9,9 +8,14 @@ use Rattle.sheet.proofs.drafts.Draft.add_node.Goals as goal
 pub invariant_of-self : goal.invariant_of-self
 invariant_of-self c =
     let d = c.args.self.now in
-    let joined : every (joins (map domain_number c.push_reserved.new.self.items)) d.rows.items ≡ true =
-    simp (c.push_reserved.ensures.items, map_push) (all_join_node (map domain_number d.domains.items) (domain_number c.args.domain) d.rows.items d.joined) in
-    record { nodes_fit = (omega arith, omega arith); variables_fit = d.variables_fit; rows_fit = d.rows_fit; joined = joined; marked = d.marked; named = d.named }
+    record {
+      nodes_fit = (omega arith, omega arith);
+      variables_fit = d.variables_fit;
+      rows_fit = d.rows_fit;
+      joined = simp (c.push_reserved.ensures.items, map_push) (all_join_node (map domain_number d.domains.items) (domain_number c.args.domain) d.rows.items d.joined);
+      marked = d.marked;
+      named = d.named;
+    }
 
 pub returns : goal.returns
 returns c =

@@ -1,6 +1,5 @@
-use Rattle.std.proofs.Common.{refl}
 use Rattle.sheet.proofs.Whole.{draft_sound}
 use Rattle.sheet.proofs.drafts.Draft.issue.Goals as goal
 
-pub returns : goal.returns
-returns c = record { netlist = refl; sound = draft_sound c.args.self }
+pub returns-clause-sound : goal.returns-clause-sound
+returns-clause-sound c = draft_sound c.args.self

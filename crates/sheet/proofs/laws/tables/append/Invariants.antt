@@ -1,9 +1,0 @@
-use Rattle.std.proofs.Common.{◌≡◌, ◌+◌, ◌++◌, map, take, vec_items, vec_len, vec_capacity}
-use Rattle.netlist.specs.Netlist.{term_of}
-use Rattle.sheet.proofs.laws.tables.append.Given as goal
-
-abbrev pub invariant-loop-term : goal.invariant-loop-term
-invariant-loop-term l =
-    (vec_items l.to ≡ vec_items l.initial.to ++ map term_of (take l.term-index l.terms))
-    × (vec_len l.to ≡ vec_len l.initial.to + l.term-index)
-    × (vec_capacity l.to ≡ vec_capacity l.initial.to)
