@@ -39,17 +39,6 @@ module _ (b : Netlist) (k : ℕ) where
   count : length (equations_of b) ≡ length b.laws + length b.domains + length b.rows
   count = length_listed b.laws b.rows (length b.domains) b.variables
 
-  pub this_law : (laws : List (List Term)) (law : List Term) → laws ≡ b.laws → k < length laws → law ≡ get_or laws k [] → Next (equations_of b) k law
-  this_law laws law same h own =
-      let long = ap length same in
-      record {
-        within = omega (arith, count);
-        is =
-            law_at b.laws b.rows (length b.domains) b.variables k (omega arith)
-            ∙ ap (λ (ls : List (List Term)). get_or ls k []) (sym same)
-            ∙ sym own;
-      }
-
   -- the law at which the rest of the laws begins
   pub next_law : (law : List Term) (rest : List (List Term)) → drop k b.laws ≡ law ∷ rest → (k < length b.laws) × (drop (k + 1) b.laws ≡ rest) × Next (equations_of b) k law
   next_law law rest h =

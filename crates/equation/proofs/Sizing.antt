@@ -1,6 +1,6 @@
 -- How many terms the equations have. Assumes nothing.
 use Rattle.std.proofs.Common.{◌≡◌, ℕ, zero, suc, ◌+◌, ◌*◌, ◌<◌, ◌≤◌, Bool, true, false, cond, eqb, ltb, List, [], ◌∷◌, ◌++◌, map, length, Some, None, sym, refl, ap, ◌∙◌, ⊎_elim, arith}
-use Rattle.std.specs.List.{range_with_len, sum_by, AllByRecursion}
+use Rattle.std.specs.List.{range_with_len, sum_by}
 use Rattle.std.specs.Option.{option_to_list}
 use Rattle.std.proofs.lemmas.List.{length-append}
 use Rattle.std.proofs.lemmas.List.Sums.{sum_by-cons}
@@ -12,7 +12,7 @@ use Rattle.netlist.specs.Pieces.{flat}
 use Rattle.netlist.specs.Rows.{bit}
 use Rattle.netlist.specs.Sound.{every, joins}
 use Rattle.equation.specs.Equations.{plus, minus, term_at, node_sum, node_sums, row_equation}
-use Rattle.equation.specs.Writing.{row_size, Numbered}
+use Rattle.equation.specs.Writing.{row_size}
 
 -- how many of the n numbers from a on are p
 abbrev hits_from : ℕ → ℕ → ℕ → ℕ
@@ -123,17 +123,3 @@ small (Earth flow across node) = omega arith
 pub few : (rows : List (Row ℕ)) → sum_by row_size rows ≤ 5 * length rows
 few [] = omega arith
 few (row ∷ rows) = omega (arith, sum_by-cons row_size row rows, small row, few rows)
-
--- the potentials have numbers that fit
-numbered_row : (ds : List ℕ) (v : ℕ) (row : Row ℕ) → length ds ≤ 1000 → v ≤ 4000 → joins ds row ≡ true → Numbered v row
-numbered_row ds v (Branch flow across first second) l m h =
-    let p = and_parts (ltb first (length ds)) _ h in
-    let q = and_parts (ltb second (length ds)) _ p.1 in
-    (omega (arith, ltb-true _ _ p.0), omega (arith, ltb-true _ _ q.0))
-numbered_row ds v (Earth flow across node) l m h = omega (arith, ltb-true _ _ h)
-
-pub numbered : (ds : List ℕ) (v : ℕ) (rows : List (Row ℕ)) → length ds ≤ 1000 → v ≤ 4000 → every (joins ds) rows ≡ true → AllByRecursion (Numbered v) rows
-numbered ds v [] l m h = tt
-numbered ds v (row ∷ rows) l m h =
-    let p = and_parts (joins ds row) (every (joins ds) rows) h in
-    (numbered_row ds v row l m p.0, numbered ds v rows l m p.1)
