@@ -27,12 +27,7 @@ const MOST: usize = 6000;
 fn all_domains(numbers: &[u32]) -> bool
     ensures { result ≡ every is_domain numbers.now }
 {
-    for n in numbers {
-        if !is_domain(*n) {
-            return false;
-        }
-    }
-    true
+    numbers.iter().all(|n| is_domain(*n))
 }
 
 // Whether the part begins at a place, and has one to eight terms.
