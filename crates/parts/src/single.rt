@@ -10,7 +10,7 @@ use netlist::domains::Domain;
 
 // The branch has flow variable 0 and across variable 1. Its law gives a coefficient to the value and to
 // the rate of each; a coefficient of zero is left out, and with four zeros there is no law. It is void
-// unless `domain` is the number of a domain, which both ends then have.
+// unless `domain` is the number of a domain, which both ends then have: a caller may write any number.
 #[derive(Clone, Copy)]
 pub struct Single {
     pub domain: u32,

@@ -9,7 +9,7 @@ use netlist::spans::Span;
 
 // The domains of the two ends and of the inner nodes, by their numbers; how many variables there are; the
 // rows; and for each law the part of the table of terms that is its own. Anything may stand here: what is
-// not sound is void.
+// not sound is void. A slice for each law would ask callers to lend more than plain tables of numbers.
 #[derive(Clone, Copy)]
 pub struct Tables<'a> {
     pub first: u32,
@@ -54,7 +54,7 @@ fn fills(parts: &[Span], terms: usize) -> bool
 
 impl Tables<'_> {
     // Whether there are not too many inner nodes, variables, rows or laws.
-    pub(crate) fn is_small(&self) -> bool
+    fn is_small(&self) -> bool
         ensures { result ≡ is_small self.now }
     {
         self.inner.len() <= MOST
