@@ -1,4 +1,4 @@
-mod Kept
-mod Steps
+mod Every
 mod Filled
-mod Reading
+mod SingleLaw
+mod Sound

@@ -35,16 +35,16 @@ is_sound t =
 abbrev pub law_in : List PlanTerm → Span → List PlanTerm
 law_in terms s = take s.length (drop s.offset terms)
 
--- the plan, where law tells what a part of the table reads as
-abbrev pub plan_by : (List PlanTerm → Span → List PlanTerm) → Tables → Plan
-plan_by law t = record {
+-- the plan that stands in the tables
+abbrev pub plan_of : Tables → Plan
+plan_of t = record {
   ends = domain_at t.first ∷ domain_at t.second ∷ [];
   inner = map domain_at t.inner.now;
   variables = t.variables;
   rows = t.rows.now;
-  laws = map (law t.terms.now) t.laws.now;
+  laws = map (law_in t.terms.now) t.laws.now;
 }
 
 -- Sound tables are a plan as they stand, and any others are void.
 abbrev pub stored : Tables → Meaning
-stored t = cond (is_sound t) (plan (plan_by law_in t)) void
+stored t = cond (is_sound t) (plan (plan_of t)) void

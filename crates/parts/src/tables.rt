@@ -9,7 +9,7 @@ use netlist::spans::Span;
 
 // The domains of the two ends and of the inner nodes, by their numbers; how many variables there are; the
 // rows; and for each law the part of the table of terms that is its own. Anything may stand here: what is
-// not sound is void.
+// not sound is void. A slice for each law would ask callers to lend more than plain tables of numbers.
 #[derive(Clone, Copy)]
 pub struct Tables<'a> {
     pub first: u32,
@@ -27,12 +27,7 @@ const MOST: usize = 6000;
 fn all_domains(numbers: &[u32]) -> bool
     ensures { result ≡ every is_domain numbers.now }
 {
-    for n in numbers {
-        if !is_domain(*n) {
-            return false;
-        }
-    }
-    true
+    numbers.iter().all(|n| is_domain(*n))
 }
 
 // Whether the part begins at a place, and has one to eight terms.
@@ -59,7 +54,7 @@ fn fills(parts: &[Span], terms: usize) -> bool
 
 impl Tables<'_> {
     // Whether there are not too many inner nodes, variables, rows or laws.
-    pub(crate) fn is_small(&self) -> bool
+    fn is_small(&self) -> bool
         ensures { result ≡ is_small self.now }
     {
         self.inner.len() <= MOST

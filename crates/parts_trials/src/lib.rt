@@ -67,13 +67,7 @@ mod tests {
     }
 
     fn count_void<P: Assembly>(parts: &[P]) -> usize {
-        let mut void = 0;
-        for part in parts {
-            if part.is_void() && void < parts.len() {
-                void += 1;
-            }
-        }
-        void
+        parts.iter().filter(|part| part.is_void()).count()
     }
 
     #[test]
@@ -91,22 +85,8 @@ mod tests {
         assert_eq!(rt; DAMPER.domain(1), Some(Domain::Rotational));
         assert_eq!(rt; DAMPER.domain(2), None);
         assert_eq!(rt; DAMPER.law_len(0), Some(2));
-        assert_eq!(rt;
-            DAMPER.term(0, 0),
-            Some(PlanTerm {
-                coefficient: 5,
-                order: 0,
-                variable: 1,
-            })
-        );
-        assert_eq!(rt;
-            DAMPER.term(0, 1),
-            Some(PlanTerm {
-                coefficient: -2,
-                order: 1,
-                variable: 1,
-            })
-        );
+        assert_eq!(rt; DAMPER.term(0, 0), Some(PlanTerm::value(5, 1)));
+        assert_eq!(rt; DAMPER.term(0, 1), Some(PlanTerm::rate(-2, 1)));
         assert_eq!(rt; DAMPER.term(0, 2), None);
     }
 
