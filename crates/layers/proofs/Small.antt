@@ -2,7 +2,7 @@
 use Rattle.std.proofs.Common.{◌≡◌, ℕ, ◌≤◌, true, arith}
 use Rattle.std.proofs.lemmas.Bool.Decides.{nat_tests}
 use Rattle.assembly.specs.declared.plans.Size.{Size}
-use Rattle.layers.specs.Layer.{is_small}
+use Rattle.assembly.specs.Meaning.{is_small}
 
 abbrev pub size_with : ℕ → ℕ → ℕ → ℕ → ℕ → Size
 size_with e i v r l = record { ends = e; inner = i; variables = v; rows = r; laws = l }

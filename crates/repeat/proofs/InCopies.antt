@@ -8,10 +8,10 @@ use Rattle.std.proofs.lemmas.Bool.{leb-true, and_right, and_parts, both_ways}
 use Rattle.netlist.specs.Sound.{every, is_term_count}
 use Rattle.assembly.specs.Plans.{PlanRow, PlanTerm}
 use Rattle.assembly.specs.declared.plans.Size.{Size}
-use Rattle.assembly.specs.Meaning.{Meaning, void, plan, Plan, Bounded, Proper, size_in, size_of, domains_of, rows_of, laws_of, terms_of}
+use Rattle.assembly.specs.Meaning.{Meaning, void, plan, Plan, Bounded, Proper, size_in, size_of, domains_of, rows_of, laws_of, terms_of, is_small}
 use Rattle.assembly.proofs.Nth.{nth_append_left, nth_append_right}
 use Rattle.layers.specs.declared.renumbering.Renumbering.{Renumbering}
-use Rattle.layers.specs.Layer.{is_small, second_end}
+use Rattle.layers.specs.Layer.{second_end}
 use Rattle.layers.specs.Renumbered.{moved_row, moved_term, moved_rows, moved_laws}
 use Rattle.layers.proofs.Ends.{by_ends}
 use Rattle.layers.proofs.Laws.{mapped_length, moved_terms, no_terms, kept_lengths, joined_lengths}

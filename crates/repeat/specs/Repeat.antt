@@ -2,10 +2,10 @@
 use Rattle.std.specs.Prelude.{◌≡◌, ℕ, ◌+◌, ◌-◌, ◌*◌, ◌<◌, ◌≤◌, Bool, true, false, ◌&&◌, List, [], ◌∷◌, ◌++◌, Option, MatchOption, nat_le, slice_index_or}
 use Rattle.std.specs.List.{range_with_len, flat_map}
 use Rattle.assembly.specs.declared.plans.Size.{Size}
-use Rattle.assembly.specs.Meaning.{Meaning, void, plan, Plan, Bounded, size_in}
+use Rattle.assembly.specs.Meaning.{Meaning, void, plan, Plan, Bounded, size_in, is_small}
 use Rattle.layers.specs.declared.renumbering.Renumbering.{Renumbering}
 use Rattle.layers.specs.Renumbered.{absent, moved_rows, moved_laws}
-use Rattle.layers.specs.Layer.{is_small, layer_if, same_domain, domain_at, second_end}
+use Rattle.layers.specs.Layer.{layer_if, same_domain, domain_at, second_end}
 use Rattle.repeat.specs.declared.copies.Copies.{Copies}
 use Rattle.repeat.specs.declared.copies.Spot.{Spot}
 

@@ -3,7 +3,6 @@ ghost use Rattle.std.specs.Prelude.{◌*◌, ◌≤◌};
 
 use assembly::plans::Size;
 use layers::renumbering::Renumbering;
-use layers::sizes::is_small;
 
 const MOST: usize = 1000;
 
@@ -37,7 +36,7 @@ impl Copies {
         if !(1..=MOST).contains(&times) {
             return None;
         }
-        if !is_small(part) {
+        if !part.is_small() {
             return None;
         }
         let whole = Size {
@@ -47,7 +46,7 @@ impl Copies {
             rows: times * part.rows,
             laws: times * part.laws,
         };
-        if !is_small(whole) {
+        if !whole.is_small() {
             return None;
         }
         Some(Copies { part, times, whole })
