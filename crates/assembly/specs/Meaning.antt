@@ -1,5 +1,5 @@
 -- What an assembly means: void, or a plan; and what each query tells of it. Assumes nothing.
-use Rattle.std.specs.Prelude.{◌≡◌, ℕ, ◌≤◌, Bool, true, false, List, [], ◌++◌, map, length, Some, None, Option, slice_index_or}
+use Rattle.std.specs.Prelude.{◌≡◌, ℕ, ◌≤◌, Bool, true, false, ◌&&◌, List, [], ◌++◌, map, length, Some, None, Option, nat_le, slice_index_or}
 use Rattle.netlist.specs.declared.domains.Domain.{Domain}
 use Rattle.netlist.specs.Sound.{every, is_term_count}
 use Rattle.assembly.specs.Plans.{PlanRow}
@@ -28,6 +28,10 @@ pub record Bounded (p : Plan) : Type 0 where
   pub few_laws : length p.laws ≤ 6000
   -- each law has one to eight terms
   pub law_lengths : every is_term_count (map length p.laws) ≡ true
+
+-- No count is above 6,000.
+abbrev pub is_small : Size → Bool
+is_small n = nat_le n.inner 6000 && (nat_le n.variables 6000 && (nat_le n.rows 6000 && nat_le n.laws 6000))
 
 abbrev pub Proper : Meaning → Type 0
 Proper void = Unit {0}

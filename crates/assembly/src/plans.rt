@@ -1,6 +1,9 @@
 // What a plan is made of, in the plan's own numbers. Its nodes are the ends, two of them, and then the
 // inner nodes: node 0 is the first end, node 1 the second, node 2 + j inner node j.
 
+ghost use Rattle.std.specs.Prelude.{◌≡◌};
+ghost use Rattle.assembly.specs.Meaning.{is_small};
+
 use netlist::rows::Row;
 use netlist::terms::RawTerm;
 
@@ -18,4 +21,18 @@ pub struct Size {
     pub variables: usize,
     pub rows: usize,
     pub laws: usize,
+}
+
+impl Size {
+    // A plan has at most so many inner nodes, variables, rows and laws, of each.
+    pub const MOST: usize = 6000;
+
+    pub fn is_small(self) -> bool
+        ensures { result ≡ is_small self }
+    {
+        self.inner <= Self::MOST
+            && self.variables <= Self::MOST
+            && self.rows <= Self::MOST
+            && self.laws <= Self::MOST
+    }
 }

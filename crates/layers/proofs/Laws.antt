@@ -1,15 +1,14 @@
 -- Laws whose terms are moved. Assumes nothing.
-use Rattle.std.proofs.Common.{◌≡◌, ℕ, zero, suc, ◌-◌, ◌≤◌, true, List, [], ◌∷◌, ◌++◌, map, length, get_or, Some, None, Option, unwrap_or, sym, refl, ap, ◌∙◌}
+use Rattle.std.proofs.Common.{◌≡◌, ℕ, ◌-◌, ◌≤◌, true, List, [], ◌∷◌, ◌++◌, map, length, get_or, Some, None, Option, unwrap_or, sym, refl, ap, ◌∙◌}
 use Rattle.std.specs.Option.{option_map}
 use Rattle.std.specs.List.{slice_get}
 use Rattle.std.proofs.lemmas.List.{length-map, map-append, get_or-append_right}
-use Rattle.std.proofs.lemmas.Option.{slice_get-map}
+use Rattle.std.proofs.lemmas.Option.{slice_get-map, unwrap_or-slice_get}
 use Rattle.std.proofs.Math.ListN.{get_or-map}
 use Rattle.netlist.specs.Sound.{every, is_term_count}
 use Rattle.netlist.proofs.Every.{every_append}
 use Rattle.assembly.specs.Plans.{PlanTerm}
 use Rattle.assembly.specs.Meaning.{Plan, Bounded}
-use Rattle.assembly.proofs.Nth.{nth_map}
 use Rattle.layers.specs.declared.renumbering.Renumbering.{Renumbering}
 use Rattle.layers.specs.Renumbered.{moved_term, moved_laws}
 
@@ -19,21 +18,16 @@ mapped_length f (Some xs) = ap Some (length-map xs f)
 
 nth_moved : {X Y : Type 0} (f : X → Y) (o : Option (List X)) (t : ℕ) → slice_get (unwrap_or (option_map (map f) o) []) t ≡ option_map f (slice_get (unwrap_or o []) t)
 nth_moved f None t = refl
-nth_moved f (Some xs) t = nth_map f xs t
-
-get_or_nth : {X : Type 0} (xs : List (List X)) (k : ℕ) → get_or xs k [] ≡ unwrap_or (slice_get xs k) []
-get_or_nth [] k = refl
-get_or_nth (x ∷ xs) zero = refl
-get_or_nth (x ∷ xs) (suc k) = get_or_nth xs k
+nth_moved f (Some xs) t = slice_get-map f xs t
 
 -- a law of the layer is a part's, moved: so are its terms
 pub moved_terms : {X Y : Type 0} (f : X → Y) (laws : List (List Y)) (k : ℕ) (old : List (List X)) (j t : ℕ) → slice_get laws k ≡ option_map (map f) (slice_get old j) → slice_get (get_or laws k []) t ≡ option_map f (slice_get (get_or old j []) t)
 moved_terms f laws k old j t e =
-    ap (λ xs. slice_get xs t) (get_or_nth laws k) ∙ ap (λ o. slice_get (unwrap_or o []) t) e ∙ nth_moved f (slice_get old j) t
-    ∙ ap (λ xs. option_map f (slice_get xs t)) (sym (get_or_nth old j))
+    ap (λ xs. slice_get xs t) (sym (unwrap_or-slice_get laws k [])) ∙ ap (λ o. slice_get (unwrap_or o []) t) e ∙ nth_moved f (slice_get old j) t
+    ∙ ap (λ xs. option_map f (slice_get xs t)) (unwrap_or-slice_get old j [])
 
 pub no_terms : {X : Type 0} (laws : List (List X)) (k t : ℕ) → None ≡ slice_get laws k → None ≡ slice_get (get_or laws k []) t
-no_terms laws k t e = ap (λ o. slice_get (unwrap_or o []) t) e ∙ ap (λ xs. slice_get xs t) (sym (get_or_nth laws k))
+no_terms laws k t e = ap (λ o. slice_get (unwrap_or o []) t) e ∙ ap (λ xs. slice_get xs t) (unwrap_or-slice_get laws k [])
 
 -- the terms of the second of two lists of laws
 pub terms_behind : {X Y : Type 0} (f : X → Y) (laws : List (List Y)) (old : List (List X)) (n k t : ℕ) → n ≡ length laws → n ≤ k → option_map f (slice_get (get_or old (k - n) []) t) ≡ slice_get (get_or (laws ++ map (map f) old) k []) t

@@ -1,14 +1,9 @@
 -- When a layer has a plan. Assumes nothing.
-use Rattle.std.specs.Prelude.{ℕ, Bool, false, cond, ◌&&◌, List, take, drop, Some, None, Option, ◌==◌, nat_le}
+use Rattle.std.specs.Prelude.{ℕ, Bool, false, cond, ◌&&◌, List, take, drop, Some, None, Option, ◌==◌}
 use Rattle.std.specs.List.{slice_get}
 use Rattle.netlist.specs.declared.domains.Domain.{Domain}
 use Rattle.netlist.specs.Domains.{domain_number}
-use Rattle.assembly.specs.declared.plans.Size.{Size}
-use Rattle.assembly.specs.Meaning.{Meaning, void, plan, Plan, size_in, domains_of}
-
--- No count is above 6,000.
-abbrev pub is_small : Size → Bool
-is_small n = nat_le n.inner 6000 && (nat_le n.variables 6000 && (nat_le n.rows 6000 && nat_le n.laws 6000))
+use Rattle.assembly.specs.Meaning.{Meaning, void, plan, Plan, size_in, domains_of, is_small}
 
 -- A layer has this plan if its ends meet and no count is too large; else it is void.
 abbrev pub layer_if : Bool → Plan → Meaning

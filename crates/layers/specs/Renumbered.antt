@@ -1,9 +1,8 @@
 -- What becomes of a part's nodes, variables, rows and laws in the layer that holds it. Assumes nothing.
 use Rattle.std.specs.Prelude.{ℕ, List, ◌∷◌, map, slice_index_or}
 use Rattle.std.specs.List.{range_with_len}
-use Rattle.assembly.specs.Plans.{PlanRow}
 use Rattle.netlist.specs.declared.rows.Row.TheVariants.{Branch, Earth}
-use Rattle.assembly.specs.Plans.{PlanTerm}
+use Rattle.assembly.specs.Plans.{PlanRow, PlanTerm}
 use Rattle.assembly.specs.Meaning.{Plan}
 use Rattle.layers.specs.declared.renumbering.Renumbering.{Renumbering}
 

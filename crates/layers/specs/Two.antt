@@ -1,10 +1,10 @@
 -- Layers of two parts. Assumes nothing.
 use Rattle.std.specs.Prelude.{◌≡◌, ℕ, ◌+◌, Bool, true, false, Option, MatchOption}
 use Rattle.assembly.specs.declared.plans.Size.{Size}
-use Rattle.assembly.specs.Meaning.{Meaning, void, plan, Plan, Bounded, size_in, rows_of, laws_of}
+use Rattle.assembly.specs.Meaning.{Meaning, void, plan, Plan, Bounded, size_in, rows_of, laws_of, is_small}
 use Rattle.layers.specs.declared.halves.Halves.{Halves}
 use Rattle.layers.specs.declared.renumbering.Renumbering.{Renumbering}
-use Rattle.layers.specs.Layer.{is_small, layer_if}
+use Rattle.layers.specs.Layer.{layer_if}
 use Rattle.layers.specs.Joined.{joined_rows, joined_laws}
 
 -- A layer over a void part is void. Else `meet` tells whether the ends meet, and `whole` is the plan.

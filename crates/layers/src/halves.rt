@@ -2,7 +2,6 @@
 ghost use Rattle.std.specs.Prelude.{◌+◌, ◌≤◌};
 
 use super::renumbering::Renumbering;
-use super::sizes::is_small;
 use assembly::plans::Size;
 
 // What the two parts of a layer have, and what the layer has. Sixteen bits hold the layer's numbers.
@@ -24,7 +23,7 @@ impl Halves {
     pub fn new(first: Size, second: Size, joints: u32) -> Option<Halves>
         ensures { SmallHalves joints first second result }
     {
-        if !is_small(first) || !is_small(second) {
+        if !first.is_small() || !second.is_small() {
             return None;
         }
         let whole = Size {
@@ -34,7 +33,7 @@ impl Halves {
             rows: first.rows + second.rows,
             laws: first.laws + second.laws,
         };
-        if !is_small(whole) {
+        if !whole.is_small() {
             return None;
         }
         Some(Halves {

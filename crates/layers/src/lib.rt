@@ -6,4 +6,3 @@ pub mod domains;
 pub mod halves;
 pub mod pair;
 pub mod renumbering;
-pub mod sizes;

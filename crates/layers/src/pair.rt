@@ -23,6 +23,7 @@ pub struct Pair<'a, A: Assembly, B: Assembly> {
     ghost laws_before: { parts.first.laws ≡ length (laws_of (A.Assembly.meaning first.now)) },
 }
 
+// The parts are only lent, so that a pair may be dropped whatever they are.
 impl<A: Assembly, B: Assembly> Drop for Pair<'_, A, B> {
     fn drop(self) {
         let Pair {

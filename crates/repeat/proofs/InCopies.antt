@@ -4,15 +4,14 @@ use Rattle.std.specs.List.{range_with_len, flat_map, slice_get}
 use Rattle.std.specs.Option.{option_map}
 use Rattle.std.proofs.lemmas.List.{length-append, length-map}
 use Rattle.std.proofs.lemmas.Option.{slice_get_past}
-use Rattle.std.proofs.lemmas.Bool.{and_right, both_ways}
+use Rattle.std.proofs.lemmas.Bool.{leb-true, and_right, and_parts, both_ways}
 use Rattle.netlist.specs.Sound.{every, is_term_count}
-use Rattle.assembly.specs.Plans.{PlanRow}
-use Rattle.assembly.specs.Plans.{PlanTerm}
+use Rattle.assembly.specs.Plans.{PlanRow, PlanTerm}
 use Rattle.assembly.specs.declared.plans.Size.{Size}
-use Rattle.assembly.specs.Meaning.{Meaning, void, plan, Plan, Bounded, Proper, size_in, size_of, domains_of, rows_of, laws_of, terms_of}
+use Rattle.assembly.specs.Meaning.{Meaning, void, plan, Plan, Bounded, Proper, size_in, size_of, domains_of, rows_of, laws_of, terms_of, is_small}
 use Rattle.assembly.proofs.Nth.{nth_append_left, nth_append_right}
 use Rattle.layers.specs.declared.renumbering.Renumbering.{Renumbering}
-use Rattle.layers.specs.Layer.{is_small, second_end}
+use Rattle.layers.specs.Layer.{second_end}
 use Rattle.layers.specs.Renumbered.{moved_row, moved_term, moved_rows, moved_laws}
 use Rattle.layers.proofs.Ends.{by_ends}
 use Rattle.layers.proofs.Laws.{mapped_length, moved_terms, no_terms, kept_lengths, joined_lengths}
@@ -68,6 +67,7 @@ judged n a p e None large =
 judged n a p e (Some c) are =
     let counted = size_in_copies n a p in
     let small : is_small (size_in (in_copies n a)) ≡ true = ap is_small (counted ∙ sym are.whole_is) ∙ are.small in
+    let count = and_parts _ _ are.count in
     record {
       one = a;
       one_is = refl;
@@ -79,6 +79,8 @@ judged n a p e (Some c) are =
       times_has = are.times_is;
       whole_has = are.whole_is ∙ sym counted;
       one_bounds = p;
+      some = leb-true _ _ count.0;
+      few = leb-true _ _ count.1;
       small = small;
     }
 

@@ -3,8 +3,8 @@ use Rattle.std.proofs.Common.{◌≡◌, ℕ, zero, suc, ◌+◌, ◌-◌, ◌*�
 use Rattle.std.specs.List.{range_with_len, flat_map, slice_get}
 use Rattle.std.specs.Option.{option_map}
 use Rattle.std.proofs.lemmas.List.{length-append, length-map}
-use Rattle.std.proofs.lemmas.Option.{slice_get_past}
-use Rattle.assembly.proofs.Nth.{nth_append_left, nth_append_right, nth_map}
+use Rattle.std.proofs.lemmas.Option.{slice_get_past, slice_get-map}
+use Rattle.assembly.proofs.Nth.{nth_append_left, nth_append_right}
 use Rattle.repeat.specs.declared.copies.Spot.{Spot}
 use Rattle.repeat.specs.Repeat.{in_turn, IsSpot}
 
@@ -40,7 +40,7 @@ module _ {X : Type 0} (f : ℕ → List X) (len : ℕ) (even : (i : ℕ) → len
 -- Copies of one list, each moved by a function of its own.
 module _ {X Y : Type 0} (F : ℕ → X → Y) (xs : List X) (n k : ℕ) where
   pub nth_copy : (s : Spot) → IsSpot (length xs) n k s → slice_get (in_turn n (λ i. map (F i) xs)) k ≡ option_map (F s.copy) (slice_get xs s.place)
-  nth_copy s at = nth_spot (λ i. map (F i) xs) (length xs) (λ i. length-map xs (F i)) n k s at ∙ nth_map (F s.copy) xs s.place
+  nth_copy s at = nth_spot (λ i. map (F i) xs) (length xs) (λ i. length-map xs (F i)) n k s at ∙ slice_get-map (F s.copy) xs s.place
 
   pub nth_no_copy : n * length xs ≤ k → None ≡ slice_get (in_turn n (λ i. map (F i) xs)) k
   nth_no_copy past =

@@ -1,11 +1,11 @@
 -- What copies of a part in series mean. Assumes nothing.
-use Rattle.std.specs.Prelude.{◌≡◌, ℕ, ◌+◌, ◌-◌, ◌*◌, ◌<◌, Bool, true, false, ◌&&◌, List, [], ◌∷◌, ◌++◌, Option, MatchOption, nat_le, slice_index_or}
+use Rattle.std.specs.Prelude.{◌≡◌, ℕ, ◌+◌, ◌-◌, ◌*◌, ◌<◌, ◌≤◌, Bool, true, false, ◌&&◌, List, [], ◌∷◌, ◌++◌, Option, MatchOption, nat_le, slice_index_or}
 use Rattle.std.specs.List.{range_with_len, flat_map}
 use Rattle.assembly.specs.declared.plans.Size.{Size}
-use Rattle.assembly.specs.Meaning.{Meaning, void, plan, Plan, Bounded, size_in}
+use Rattle.assembly.specs.Meaning.{Meaning, void, plan, Plan, Bounded, size_in, is_small}
 use Rattle.layers.specs.declared.renumbering.Renumbering.{Renumbering}
 use Rattle.layers.specs.Renumbered.{absent, moved_rows, moved_laws}
-use Rattle.layers.specs.Layer.{is_small, layer_if, same_domain, domain_at, second_end}
+use Rattle.layers.specs.Layer.{layer_if, same_domain, domain_at, second_end}
 use Rattle.repeat.specs.declared.copies.Copies.{Copies}
 use Rattle.repeat.specs.declared.copies.Spot.{Spot}
 
@@ -84,6 +84,8 @@ pub record Copied (n : ℕ) (m w : Meaning) (c : Copies) : Type 0 where
   pub times_has : c.times ≡ n
   pub whole_has : c.whole ≡ size_in (in_copies n one)
   pub one_bounds : Bounded one
+  pub some : 1 ≤ n
+  pub few : n ≤ 1000
   pub small : is_small (size_in (in_copies n one)) ≡ true
 
 -- What a layer of copies tells: that it is void, or what it and one copy have.

@@ -3,7 +3,6 @@ ghost use Rattle.std.specs.Prelude.{◌*◌, ◌≤◌};
 
 use assembly::plans::Size;
 use layers::renumbering::Renumbering;
-use layers::sizes::is_small;
 
 const MOST: usize = 1000;
 
@@ -18,9 +17,16 @@ pub struct Copies {
     ghost few_variables: { times * part.variables ≤ 6000 },
 }
 
+// A place in one of the copies.
+#[derive(Clone, Copy)]
+pub struct Spot {
+    pub copy: usize,
+    pub place: usize,
+}
+
 impl Copies {
-    ghost use Rattle.std.specs.Prelude.{◌≡◌, ◌<◌, ◌≤◌};
-    ghost use Rattle.repeat.specs.Repeat.{SmallCopies, stop_at, copy_place};
+    ghost use Rattle.std.specs.Prelude.{◌≡◌, ◌*◌, ◌<◌, ◌≤◌, MatchOption};
+    ghost use Rattle.repeat.specs.Repeat.{SmallCopies, stop_at, copy_place, IsSpot};
 
     // The copies together with the joints between them; `None` where there are none or too many, or the
     // layer would have too much.
@@ -30,7 +36,7 @@ impl Copies {
         if !(1..=MOST).contains(&times) {
             return None;
         }
-        if !is_small(part) {
+        if !part.is_small() {
             return None;
         }
         let whole = Size {
@@ -40,7 +46,7 @@ impl Copies {
             rows: times * part.rows,
             laws: times * part.laws,
         };
-        if !is_small(whole) {
+        if !whole.is_small() {
             return None;
         }
         Some(Copies { part, times, whole })
@@ -74,25 +80,13 @@ impl Copies {
             variables_from: (i * self.part.variables) as u16,
         }
     }
-}
 
-// A place in one of the copies.
-#[derive(Clone, Copy)]
-pub struct Spot {
-    pub copy: usize,
-    pub place: usize,
-}
-
-impl Spot {
-    ghost use Rattle.std.specs.Prelude.{◌*◌, ◌≤◌, MatchOption};
-    ghost use Rattle.repeat.specs.Repeat.{IsSpot};
-
-    // Where place `k` of `times` lists, all of length `len`, lies.
-    pub(crate) fn find(len: usize, times: usize, k: usize) -> Option<Spot>
-        ensures { MatchOption result (times * len ≤ k) (IsSpot len times k) }
+    // Where place `k` of the copies' things lies, of which each copy has `len`.
+    pub(crate) fn spot(self, len: usize, k: usize) -> Option<Spot>
+        ensures { MatchOption result (self.times * len ≤ k) (IsSpot len self.times k) }
     {
         let copy = k.checked_div(len)?;
-        (copy < times).then_some(Spot {
+        (copy < self.times).then_some(Spot {
             copy,
             place: k % len,
         })

@@ -11,7 +11,7 @@ mod copies;
 
 use assembly::Assembly;
 use assembly::plans::{PlanRow, PlanTerm, Size};
-use copies::{Copies, Spot};
+use copies::Copies;
 use layers::domains::same_domain;
 use netlist::domains::Domain;
 
@@ -46,7 +46,7 @@ impl<A: Assembly> Assembly for Repeat<A> {
         if node < 2 {
             return self.part.domain(node);
         }
-        match Spot::find(copies.part.inner, copies.times, node - 2) {
+        match copies.spot(copies.part.inner, node - 2) {
             Some(s) => self.part.domain(2 + s.place),
             None if node - 2 < copies.whole.inner => self.part.domain(1),
             None => None,
@@ -55,19 +55,19 @@ impl<A: Assembly> Assembly for Repeat<A> {
 
     fn row(&self, k: usize) -> Option<PlanRow> {
         let copies = self.copies()?;
-        let s = Spot::find(copies.part.rows, copies.times, k)?;
+        let s = copies.spot(copies.part.rows, k)?;
         copies.place(s.copy).row(self.part.row(s.place))
     }
 
     fn law_len(&self, k: usize) -> Option<usize> {
         let copies = self.copies()?;
-        let s = Spot::find(copies.part.laws, copies.times, k)?;
+        let s = copies.spot(copies.part.laws, k)?;
         self.part.law_len(s.place)
     }
 
     fn term(&self, k: usize, t: usize) -> Option<PlanTerm> {
         let copies = self.copies()?;
-        let s = Spot::find(copies.part.laws, copies.times, k)?;
+        let s = copies.spot(copies.part.laws, k)?;
         copies.place(s.copy).term(self.part.term(s.place, t))
     }
 }

@@ -35,6 +35,9 @@ module _ {X : Type 0} (is js : List X) where
   abbrev nodes : List X → List X → List X
   nodes xs ys = (take 1 xs ++ drop 1 ys) ++ (is ++ js ++ drop 1 xs)
 
+  second_node : (xs ys : List X) → length xs ≡ 2 → length ys ≡ 2 → slice_get (ys ++ js) 1 ≡ slice_get (nodes xs ys) 1
+  second_node = by_both_ends (λ xs ys. slice_get (ys ++ js) 1 ≡ slice_get (nodes xs ys) 1) (λ x y u v. refl)
+
   joint_node : (i : ℕ) → i ≡ 2 + length is + length js → (xs ys : List X) → length xs ≡ 2 → length ys ≡ 2 → slice_get (xs ++ is) 1 ≡ slice_get (nodes xs ys) i
   joint_node zero e = absurd (omega arith)
   joint_node (suc zero) e = absurd (omega arith)
@@ -53,6 +56,11 @@ module _ {X : Type 0} (is js : List X) where
       (λ x y u v. inner_other (is ++ js) y i (λ e. last (omega (arith, e, length-append is js))))
 
 module _ {m n w : Meaning} {h : Halves} (is : Halved in_series m n w h) where
+  pub domain_second : slice_get (domains_of n) 1 ≡ slice_get (domains_of w) 1
+  domain_second =
+      by_halves in_series (λ m n w x y z. slice_get (domains_of n) 1 ≡ slice_get (domains_of w) 1)
+      (λ a b p q s. second_node a.inner b.inner a.ends b.ends p.two_ends q.two_ends) is
+
   pub domain_joint : (i : ℕ) → i ≡ joint h.first h.second → slice_get (domains_of m) 1 ≡ slice_get (domains_of w) i
   domain_joint i =
       by_halves in_series (λ m n w x y z. i ≡ joint x y → slice_get (domains_of m) 1 ≡ slice_get (domains_of w) i)

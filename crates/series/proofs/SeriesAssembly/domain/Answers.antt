@@ -1,6 +1,11 @@
-use Rattle.std.proofs.Common.{sym, ◌∙◌}
-use Rattle.series.proofs.InSeries.{domain_joint, domain_other}
+use Rattle.std.proofs.Common.{sym, ap, ◌∙◌}
+use Rattle.std.specs.List.{slice_get}
+use Rattle.series.proofs.InSeries.{domain_second, domain_joint, domain_other}
 use Rattle.series.proofs.SeriesAssembly.domain.Goals as goal
+
+pub returns-then-node-eq1 : goal.returns-then-node-eq1
+returns-then-node-eq1 g c =
+    c.domain.ensures ∙ domain_second c.in_ok-pair.ensures.halved ∙ ap (slice_get _) (sym c.if-node-eq1.true)
 
 pub returns-then-node-from : goal.returns-then-node-from
 returns-then-node-from g c =
