@@ -1,10 +1,8 @@
 -- How many equations and terms there are in all. Assumes nothing.
-use Rattle.std.proofs.Common.{◌≡◌, ℕ, ◌+◌, ◌<◌, ◌≤◌, ltb, ◌⊎◌, List, [], ◌∷◌, ◌++◌, map, length, Some, None, refl, ap, ⊎_elim, arith}
+use Rattle.std.proofs.Common.{◌≡◌, ℕ, ◌+◌, List, [], ◌∷◌, ◌++◌, map, length, refl, ap, arith}
 use Rattle.std.specs.List.{sum_by}
 use Rattle.std.proofs.lemmas.List.FromFn.{length-map-range_with_len}
 use Rattle.std.proofs.lemmas.List.{length-append, length-map}
-use Rattle.std.proofs.lemmas.Bool.{lt-ltb, le-ltb, or_left, or_right, or_from, cond-true, cond-false}
-use Rattle.netlist.specs.declared.refusals.Refusal.TheVariants.{ShortBuffer}
 use Rattle.netlist.specs.declared.rows.Row.{Row}
 use Rattle.netlist.specs.declared.terms.Term.{Term}
 use Rattle.netlist.specs.Netlist.{Netlist, term_count}
@@ -12,7 +10,7 @@ use Rattle.netlist.specs.Pieces.{flat}
 use Rattle.netlist.specs.Sound.{Sound}
 use Rattle.equation.specs.declared.listing.Listing.{Listing}
 use Rattle.equation.specs.Equations.{node_sum, node_sums, row_equation, listed}
-use Rattle.equation.specs.Listing.{listing_of, judge_equations}
+use Rattle.equation.specs.Listing.{listing_of}
 use Rattle.equation.specs.Writing.{row_size}
 use Rattle.equation.proofs.Sizing.{sizes_are}
 use Rattle.netlist.proofs.Joined.{joined_append}
@@ -59,19 +57,6 @@ module _ (b : Netlist) (s : Sound b) where
 
   pub equations_are : (listing_of b).equations ≡ length b.laws + length b.domains + length b.rows
   equations_are = length_listed b.laws b.rows (length b.domains) b.variables
-
--- whether the buffers are long enough
-module _ (b : Netlist) (m k : ℕ) where
-  pub short : (m < (listing_of b).terms) ⊎ (k < (listing_of b).equations) → judge_equations b m k ≡ Some ShortBuffer
-  short h =
-      cond-true _ _ _
-      (⊎_elim
-      (λ l. or_left (ltb m (listing_of b).terms) (ltb k (listing_of b).equations) (lt-ltb _ _ l))
-      (λ l. or_right (ltb m (listing_of b).terms) (ltb k (listing_of b).equations) (lt-ltb _ _ l))
-      h)
-
-  pub enough : (listing_of b).terms ≤ m → (listing_of b).equations ≤ k → judge_equations b m k ≡ None
-  enough p q = cond-false _ _ _ (or_from _ _ (le-ltb m (listing_of b).terms p) (le-ltb k (listing_of b).equations q))
 
 -- two that agree in both counts are one
 pub listing_same : (x y : Listing) → x.terms ≡ y.terms → x.equations ≡ y.equations → x ≡ y

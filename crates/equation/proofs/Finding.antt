@@ -1,11 +1,10 @@
 -- Equation k of a list of equations, and what a buffer holds from its start. Assumes nothing.
-use Rattle.std.proofs.Common.{◌≡◌, ℕ, ◌+◌, ◌<◌, ◌≤◌, List, [], ◌∷◌, ◌++◌, map, length, get_or, take, drop, Some, None, Option, sym, ap, ◌∙◌, arith}
+use Rattle.std.proofs.Common.{◌≡◌, ℕ, ◌+◌, ◌<◌, ◌≤◌, List, [], ◌∷◌, ◌++◌, map, length, get_or, drop, Some, None, Option, sym, ap, ◌∙◌, arith}
 use Rattle.std.specs.Option.{option_to_list}
 use Rattle.std.proofs.lemmas.List.FromFn.{length-map-range_with_len, get_or-map-range_with_len}
-use Rattle.std.proofs.lemmas.List.{get_or-append-add, get_or_append_left, get_or-map, length-append, length-drop, drop_more, take_at}
+use Rattle.std.proofs.lemmas.List.{get_or-append-add, get_or_append_left, get_or-map, length-append, length-drop, drop_more}
 use Rattle.netlist.specs.declared.rows.Row.{Row}
 use Rattle.netlist.specs.declared.terms.Term.{Term}
-use Rattle.netlist.specs.Buffers.{over}
 use Rattle.netlist.specs.Netlist.{Netlist}
 use Rattle.equation.specs.Equations.{term_at, node_sum, node_sums, row_equation, listed, equations_of}
 use Rattle.equation.proofs.Counting.{length_listed}
@@ -76,7 +75,3 @@ one_term (Some t) = omega arith
 pub few_terms : (rows : List (Row ℕ)) (n : ℕ) → length (node_sum rows n) ≤ length rows
 few_terms [] n = omega arith
 few_terms (row ∷ rows) n = omega (arith, length-append (option_to_list (term_at n row)) (node_sum rows n), one_term (term_at n row), few_terms rows n)
-
--- what was written from the start on, read again
-pub read_again : {X : Type 0} (old new : List X) (n : ℕ) → n ≡ length new → take n (over old new) ≡ new
-read_again old new n is = take_at new (drop (length new) old) n (sym is)

@@ -1,6 +1,5 @@
-use Rattle.std.proofs.Common.{ℕ, ◌+◌, ◌≤◌, List, [], ◌∷◌, length, take, set, sym, ap, ◌∙◌, arith, rules}
-use Rattle.std.proofs.lemmas.List.{take_all, length-append}
-use Rattle.netlist.specs.declared.rows.Row.{Row}
+use Rattle.std.proofs.Common.{◌+◌, ◌≤◌, List, [], ◌∷◌, length, take, set, sym, ap, ◌∙◌, arith}
+use Rattle.std.proofs.lemmas.List.{length-append}
 use Rattle.netlist.specs.declared.terms.Term.{Term}
 use Rattle.netlist.specs.Buffers.{over}
 use Rattle.equation.specs.Equations.{node_sum}
@@ -16,12 +15,6 @@ room c =
 
 pub bounds-terms-count : goal.bounds-terms-count
 bounds-terms-count c = omega (arith, room c)
-
-pub offset_bounds-terms-count : goal.offset_bounds-terms-count
-offset_bounds-terms-count c = let r = room c in search rules
-
-pub overflow_add-count : goal.overflow_add-count
-overflow_add-count c = let r = room c in search rules
 
 pub loop-row-preserved : goal.loop-row-preserved
 loop-row-preserved c =
@@ -45,12 +38,3 @@ loop-row-preserved c =
             w.terms-is ∙ inv.1 ∙ ap (over old) (sym same),
           )
     ]
-
-pub returns : goal.returns
-returns c =
-    let inv = c.loop-row.invariant in
-    let all = take_all _ _ c.loop-row-test.false in
-    record {
-      count = inv.0 ∙ ap (λ (xs : List (Row ℕ)). length (node_sum xs c.args.node)) all;
-      after = inv.1 ∙ ap (λ (xs : List (Row ℕ)). over c.args.terms.now (node_sum xs c.args.node)) all;
-    }
