@@ -1,17 +1,22 @@
 -- What a plan in tables means. Assumes nothing.
-use Rattle.std.specs.Prelude.{ℕ, ◌+◌, Bool, cond, ◌&&◌, List, [], ◌∷◌, map, length, take, drop, ◌==◌, nat_le}
+use Rattle.std.specs.Prelude.{ℕ, ◌+◌, Bool, cond, ◌&&◌, List, [], ◌∷◌, map, length, take, drop, ◌==◌}
 use Rattle.netlist.specs.declared.spans.Span.{Span}
 use Rattle.netlist.specs.Sound.{every, is_domain, is_term_count}
 use Rattle.assembly.specs.Plans.{PlanTerm}
-use Rattle.assembly.specs.Meaning.{Meaning, void, plan, Plan}
+use Rattle.assembly.specs.declared.plans.Size.{Size}
+use Rattle.assembly.specs.Meaning.{Meaning, void, plan, Plan, is_small}
 use Rattle.parts.specs.declared.tables.Tables.{Tables}
 use Rattle.parts.specs.Numbers.{domain_at}
 
--- at most 6,000 of each thing
-abbrev pub is_small : Tables → Bool
-is_small t =
-    nat_le (length t.inner.now) 6000
-    && (nat_le t.variables 6000 && (nat_le (length t.rows.now) 6000 && nat_le (length t.laws.now) 6000))
+-- how much the tables have of each thing
+abbrev pub size_told : Tables → Size
+size_told t = record {
+  ends = 2;
+  inner = length t.inner.now;
+  variables = t.variables;
+  rows = length t.rows.now;
+  laws = length t.laws.now;
+}
 
 -- the part begins at this place, and has one to eight terms
 abbrev pub begins : ℕ → Span → Bool
@@ -25,7 +30,7 @@ fill at (s ∷ ss) n = begins at s && fill (at + s.length) ss n
 -- Not too much of anything, domains by their numbers, and laws that fill the table of terms.
 abbrev pub is_sound : Tables → Bool
 is_sound t =
-    is_small t
+    is_small (size_told t)
     && (is_domain t.first
     && (is_domain t.second
     && (every is_domain t.inner.now

@@ -67,14 +67,7 @@ impl<'a> Assembly for Stored<'a> {
 
     #[tactic(auto, using(crate::proofs::Sound::proper_held))]
     fn size(&self) -> Option<Size> {
-        let tables = self.plan?.tables;
-        Some(Size {
-            ends: 2,
-            inner: tables.inner.len(),
-            variables: tables.variables,
-            rows: tables.rows.len(),
-            laws: tables.laws.len(),
-        })
+        Some(self.plan?.tables.size())
     }
 
     #[tactic(auto, using(crate::proofs::Sound::inner_here))]

@@ -1,10 +1,10 @@
 // A plan in tables that the caller lends, and when such tables are sound.
 ghost use Rattle.std.specs.Prelude.{◌≡◌, ◌≤◌, length};
 ghost use Rattle.netlist.specs.Sound.{every, is_domain};
-ghost use Rattle.parts.specs.Tables.{begins, fill, is_small, is_sound};
+ghost use Rattle.parts.specs.Tables.{begins, fill, size_told, is_sound};
 
 use super::numbers::{is_domain, is_term_count};
-use assembly::plans::{PlanRow, PlanTerm};
+use assembly::plans::{PlanRow, PlanTerm, Size};
 use netlist::spans::Span;
 
 // The domains of the two ends and of the inner nodes, by their numbers; how many variables there are; the
@@ -20,9 +20,6 @@ pub struct Tables<'a> {
     pub laws: &'a [Span],
     pub terms: &'a [PlanTerm],
 }
-
-// A plan has at most so many inner nodes, variables, rows and laws.
-const MOST: usize = 6000;
 
 fn all_domains(numbers: &[u32]) -> bool
     ensures { result ≡ every is_domain numbers.now }
@@ -53,21 +50,24 @@ fn fills(parts: &[Span], terms: usize) -> bool
 }
 
 impl Tables<'_> {
-    // Whether there are not too many inner nodes, variables, rows or laws.
-    fn is_small(&self) -> bool
-        ensures { result ≡ is_small self.now }
+    // How much there is of each thing.
+    pub(crate) fn size(&self) -> Size
+        ensures { result ≡ size_told self.now }
     {
-        self.inner.len() <= MOST
-            && self.variables <= MOST
-            && self.rows.len() <= MOST
-            && self.laws.len() <= MOST
+        Size {
+            ends: 2,
+            inner: self.inner.len(),
+            variables: self.variables,
+            rows: self.rows.len(),
+            laws: self.laws.len(),
+        }
     }
 
     // Whether the tables are a plan.
     pub(crate) fn is_sound(&self) -> bool
         ensures { result ≡ is_sound self.now }
     {
-        self.is_small()
+        self.size().is_small()
             && is_domain(self.first)
             && is_domain(self.second)
             && all_domains(self.inner)
