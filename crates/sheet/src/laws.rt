@@ -12,8 +12,8 @@ pub(crate) const MAX_LAWS: usize = 1500;
 
 pub(crate) const MAX_TERMS: usize = 6000;
 
-// The laws' terms stand one after another in `terms`, and `lengths` says how many each law has. Two
-// tables, and no `Vec` of a law's own, since all memory is reserved once.
+// The laws' terms stand one after another in `terms`, and `lengths` says how many each law has. All
+// memory is reserved once, and a `Vec` for each law would need more at each call.
 #[derive(Drop)]
 pub(crate) struct LawTable {
     lengths: Vec<usize>,

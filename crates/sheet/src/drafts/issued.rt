@@ -1,6 +1,6 @@
 // A sheet: a draft that is issued, and changes no more.
 ghost use Rattle.std.specs.Prelude.{◌≡◌, map, length};
-ghost use Rattle.netlist.specs.Pieces.{pieces, total};
+ghost use Rattle.netlist.specs.Pieces.{pieces};
 ghost use Rattle.netlist.specs.Sound.{Sound};
 ghost use Rattle.sheet.specs.Held.{netlist_of, netlist_of_sheet};
 
@@ -50,7 +50,6 @@ impl Sheet {
 
     pub fn laws(&self) -> LawView<'_>
         ensures value { pieces result.lengths.now result.terms.now ≡ (netlist_of_sheet self.now).laws }
-        ensures cut { total result.lengths.now ≡ length result.terms.now }
     {
         self.draft.laws.view()
     }

@@ -8,5 +8,5 @@ abbrev pub invariant-loop-i : goal.invariant-loop-i
 invariant-loop-i l = record {
   judged : first_of (table_terms l.variables (l.i + 1) (drop l.i l.terms)) ≡ first_of (table_terms l.variables 1 l.terms);
   accepted : take l.i l.law ≡ map term_of (take l.i l.terms);
-  long : length l.law ≡ 8;
+  long : length l.law ≡ length l.initial.law;
 }
