@@ -20,7 +20,7 @@ const MAX_NODE_TERMS: usize = 1500;
 fn node_line(sheet: &Sheet, node: usize, buffer: &mut [u8]) -> Result<usize, Refusal>
     ensures { let netlist = netlist_of_sheet sheet.now in Printed buffer.old (line_text netlist.variables (node_sum netlist.rows node)) result buffer.new }
 {
-    // No memory is taken once a draft is made, and `put_node` fills a slice: so an array, and its count.
+    // An array and a count: no memory is taken once a draft is made, and `put_node` fills a slice.
     let mut terms = [Term::value(1, 0); MAX_NODE_TERMS];
     let count = put_node(sheet.rows(), node, &mut terms);
     write_line(&terms[..count], sheet.variables(), buffer)

@@ -24,7 +24,7 @@ struct Lister<'a> {
 }
 
 impl Lister<'_> {
-    // Lists the equation whose terms, so many, are written behind those of the others.
+    // Lists the equation whose `count` terms are written already, behind those of the others.
     fn close(&mut self, count: usize)
         requires terms_room { self.old.written + count ≤ length self.old.terms.now }
         requires spans_room { self.old.listed < length self.old.spans.now }
@@ -43,7 +43,7 @@ impl Lister<'_> {
         self.listed += 1;
     }
 
-    // Lists an equation that is at hand.
+    // Lists an equation.
     fn list(&mut self, equation: &[Term])
         requires terms_room { self.old.written + length equation.now ≤ length self.old.terms.now }
         requires spans_room { self.old.listed < length self.old.spans.now }
