@@ -1,5 +1,5 @@
 -- A layer of two parts, from how its plan is laid out. Assumes nothing.
-use Rattle.std.proofs.Common.{◌≡◌, ℕ, ◌+◌, Bool, true, cond, ◌&&◌, ◌++◌, length, Some, None, Option, sym, refl, ap, ◌∙◌, subst, arith}
+use Rattle.std.proofs.Common.{◌≡◌, ℕ, ◌+◌, Bool, true, false, ◌++◌, length, Some, None, Option, sym, refl, ap, ◌∙◌, subst, arith}
 use Rattle.std.proofs.lemmas.List.{length-append, length-map}
 use Rattle.assembly.specs.declared.plans.Size.{Size}
 use Rattle.assembly.specs.Meaning.{Meaning, void, plan, Plan, Bounded, Proper, size_in, size_of, domains_of, rows_of, laws_of, is_small}
@@ -9,7 +9,7 @@ use Rattle.layers.specs.Renumbered.{moved_rows, moved_laws}
 use Rattle.layers.specs.Joined.{joined_rows, joined_laws}
 use Rattle.layers.specs.Two.{both_sizes, SmallHalves, Halved, Tells, Joins}
 use Rattle.layers.proofs.Laws.{kept_lengths, joined_lengths}
-use Rattle.layers.proofs.Small.{size_with, small_bounds}
+use Rattle.layers.proofs.Small.{size_with, bounded}
 
 -- The plan has two ends, the things of its parts and the joints.
 pub record PartsLayout (joints : ℕ) (whole : Plan → Plan → Plan) (front back : Size → Size → Renumbering) : Type 0 where
@@ -30,8 +30,8 @@ module _ {joints : ℕ} {whole : Plan → Plan → Plan} {front back : Size → 
   -- Where the ends meet, the code's count of the whole decides.
   judged : (meet : Meaning → Meaning → Bool) (a b : Plan) → Bounded a → Bounded b → meet (plan a) (plan b) ≡ true → (r : Option Halves) → SmallHalves joints (size_in a) (size_in b) r → Tells meet whole (plan a) (plan b) r
   judged meet a b p q e None large =
-      ap (λ t. cond (t && is_small (size_in (whole a b))) (plan (whole a b)) void) e
-      ∙ ap (λ t. cond t (plan (whole a b)) void) (ap is_small (size_in_layout a b p q) ∙ large)
+      let small : is_small (size_in (whole a b)) ≡ false = ap is_small (size_in_layout a b p q) ∙ large in
+      rw (e, small) refl
   judged meet a b p q e (Some h) is =
       let counted = size_in_layout a b p q in
       let small : is_small (size_in (whole a b)) ≡ true = ap is_small (counted ∙ sym is.whole_is) ∙ is.small in
@@ -40,7 +40,7 @@ module _ {joints : ℕ} {whole : Plan → Plan → Plan} {front back : Size → 
         other = b;
         one_is = refl;
         other_is = refl;
-        whole_is = ap (λ t. cond (t && is_small (size_in (whole a b))) (plan (whole a b)) void) e ∙ ap (λ t. cond t (plan (whole a b)) void) small;
+        whole_is = rw (e, small) refl;
         first_has = is.first_is;
         second_has = is.second_is;
         whole_has = is.whole_is ∙ sym counted;
@@ -50,8 +50,8 @@ module _ {joints : ℕ} {whole : Plan → Plan → Plan} {front back : Size → 
       }
 
   pub halved : (meet : Meaning → Meaning → Bool) (m n : Meaning) {x y : Size} (r : Option Halves) → Some x ≡ size_of m → Some y ≡ size_of n → Proper m → Proper n → meet m n ≡ true → SmallHalves joints x y r → Tells meet whole m n r
-  halved meet void n r ex ey p q e is = let z : ◌≡◌ {A = ℕ} 0 1 = cc in absurd (omega arith)
-  halved meet (plan a) void r ex ey p q e is = let z : ◌≡◌ {A = ℕ} 0 1 = cc in absurd (omega arith)
+  halved meet void n r ex ey p q e is = absurd (cc)
+  halved meet (plan a) void r ex ey p q e is = absurd (cc)
   halved meet (plan a) (plan b) {x} {y} r ex ey p q e is =
       let x_is : x ≡ size_in a = cc in
       let y_is : y ≡ size_in b = cc in
@@ -60,14 +60,7 @@ module _ {joints : ℕ} {whole : Plan → Plan → Plan} {front back : Size → 
 -- What holds of two plans and their whole holds of the parts and the layer.
 pub by_halves : (whole : Plan → Plan → Plan) (P : Meaning → Meaning → Meaning → Size → Size → Size → Type 0) → ((a b : Plan) → Bounded a → Bounded b → is_small (size_in (whole a b)) ≡ true → P (plan a) (plan b) (plan (whole a b)) (size_in a) (size_in b) (size_in (whole a b))) → {m n w : Meaning} {h : Halves} → Halved whole m n w h → P m n w h.first h.second h.whole
 by_halves whole P f {m} {n} {w} {h} t =
-    let a = t.one in
-    let b = t.other in
-    subst (λ u. P u n w h.first h.second h.whole) (sym t.one_is)
-    (subst (λ u. P (plan a) u w h.first h.second h.whole) (sym t.other_is)
-    (subst (λ u. P (plan a) (plan b) u h.first h.second h.whole) (sym t.whole_is)
-    (subst (λ u. P (plan a) (plan b) (plan (whole a b)) u h.second h.whole) (sym t.first_has)
-    (subst (λ u. P (plan a) (plan b) (plan (whole a b)) (size_in a) u h.whole) (sym t.second_has)
-    (subst (λ u. P (plan a) (plan b) (plan (whole a b)) (size_in a) (size_in b) u) (sym t.whole_has) (f a b t.one_bounds t.other_bounds t.small))))))
+    rw (t.one_is, t.other_is, t.whole_is, t.first_has, t.second_has, t.whole_has) (f t.one t.other t.one_bounds t.other_bounds t.small)
 
 module _ {joints : ℕ} {whole : Plan → Plan → Plan} {front back : Size → Size → Renumbering} (layout : PartsLayout joints whole front back) {m n w : Meaning} {h : Halves} (is : Halved whole m n w h) where
   -- The layer keeps to the bounds of a plan.
@@ -75,19 +68,10 @@ module _ {joints : ℕ} {whole : Plan → Plan → Plan} {front back : Size → 
   layer_proper =
       by_halves whole (λ m n w x y z. Proper w)
       (λ a b p q s.
-      let t = small_bounds (size_in (whole a b)) s in
-      record {
-        two_ends = layout.ends a b p q;
-        few_inner = t.nodes;
-        few_variables = t.variables;
-        few_rows = t.rows;
-        few_laws = t.laws;
-        law_lengths =
-            let one = front (size_in a) (size_in b) in
-            let other = back (size_in a) (size_in b) in
-            rw (layout.laws a b) (joined_lengths (moved_laws one a) (moved_laws other b) (kept_lengths one a p) (kept_lengths other b q));
-      })
-      is
+      let one = front (size_in a) (size_in b) in
+      let other = back (size_in a) (size_in b) in
+      bounded (whole a b) (layout.ends a b p q) s
+      (rw (layout.laws a b) (joined_lengths (moved_laws one a) (moved_laws other b) (kept_lengths one a p) (kept_lengths other b q)))) is
 
   -- Its rows and laws are those of its parts, in their places.
   pub joined : {p q : Renumbering} → p ≡ front h.first h.second → q ≡ back h.first h.second → Joins whole m n w h p q

@@ -1,5 +1,5 @@
 -- Each reply of copies in series, from the part's replies. Assumes nothing.
-use Rattle.std.proofs.Common.{◌≡◌, ℕ, zero, suc, ◌+◌, ◌-◌, ◌*◌, ◌<◌, ◌≤◌, Bool, true, false, cond, ◌&&◌, List, ◌++◌, map, length, Some, None, Option, sym, refl, ap, ◌∙◌, drop, subst, mul-le-mul_right, arith}
+use Rattle.std.proofs.Common.{◌≡◌, ℕ, zero, suc, ◌+◌, ◌-◌, ◌*◌, ◌<◌, ◌≤◌, Bool, true, false, ◌&&◌, List, ◌++◌, map, length, Some, None, Option, sym, refl, ap, ◌∙◌, drop, subst, mul-le-mul_right, arith}
 use Rattle.std.specs.List.{range_with_len, flat_map, slice_get}
 use Rattle.std.specs.Option.{option_map}
 use Rattle.std.proofs.lemmas.List.{length-append, length-map}
@@ -15,7 +15,7 @@ use Rattle.layers.specs.Layer.{second_end}
 use Rattle.layers.specs.Renumbered.{moved_row, moved_term, moved_rows, moved_laws}
 use Rattle.layers.proofs.Ends.{by_ends}
 use Rattle.layers.proofs.Laws.{mapped_length, moved_terms, no_terms, kept_lengths, joined_lengths}
-use Rattle.layers.proofs.Small.{size_with, small_bounds, small_from}
+use Rattle.layers.proofs.Small.{size_with, small_bounds, small_from, bounded}
 use Rattle.repeat.specs.declared.copies.Copies.{Copies}
 use Rattle.repeat.specs.declared.copies.Spot.{Spot}
 use Rattle.repeat.specs.Repeat.{in_turn, copy_place, in_copies, is_count, meet, times_size, SmallCopies, Copied, Tells, IsSpot}
@@ -62,8 +62,8 @@ not_small_times (suc k) a f = go (is_small (times_size (suc k) a)) refl
 -- Where the ends meet, the code's counts decide.
 judged : (n : ℕ) (a : Plan) → Bounded a → meet (plan a) ≡ true → (r : Option Copies) → SmallCopies n (size_in a) r → Tells n (plan a) r
 judged n a p e None large =
-    ap (λ t. cond ((t && is_count n) && is_small (size_in (in_copies n a))) (plan (in_copies n a)) void) e
-    ∙ ap (λ z. cond (is_count n && is_small z) (plan (in_copies n a)) void) (size_in_copies n a p) ∙ ap (λ t. cond t (plan (in_copies n a)) void) large
+    let counts : (is_count n && is_small (size_in (in_copies n a))) ≡ false = ap (λ z. is_count n && is_small z) (size_in_copies n a p) ∙ large in
+    rw (e, counts) refl
 judged n a p e (Some c) are =
     let counted = size_in_copies n a p in
     let small : is_small (size_in (in_copies n a)) ≡ true = ap is_small (counted ∙ sym are.whole_is) ∙ are.small in
@@ -71,10 +71,7 @@ judged n a p e (Some c) are =
     record {
       one = a;
       one_is = refl;
-      whole_is =
-          ap (λ t. cond ((t && is_count n) && is_small (size_in (in_copies n a))) (plan (in_copies n a)) void) e
-          ∙ ap (λ t. cond (t && is_small (size_in (in_copies n a))) (plan (in_copies n a)) void) are.count
-          ∙ ap (λ t. cond t (plan (in_copies n a)) void) small;
+      whole_is = rw (e, are.count, small) refl;
       part_has = are.part_is;
       times_has = are.times_is;
       whole_has = are.whole_is ∙ sym counted;
@@ -85,7 +82,7 @@ judged n a p e (Some c) are =
     }
 
 pub copied : (n : ℕ) (m : Meaning) {x : Size} (r : Option Copies) → Some x ≡ size_of m → Proper m → meet m ≡ true → SmallCopies n x r → Tells n m r
-copied n void r ex p e are = let z : ◌≡◌ {A = ℕ} 0 1 = cc in absurd (omega arith)
+copied n void r ex p e are = absurd (cc)
 copied n (plan a) {x} r ex p e are =
     let x_is : x ≡ size_in a = cc in
     judged n a p e r (subst (λ u. SmallCopies n u r) x_is are)
@@ -93,12 +90,7 @@ copied n (plan a) {x} r ex p e are =
 -- What holds of a plan and its copies holds of the part and the layer.
 pub by_copies : (n : ℕ) (P : Meaning → Meaning → Size → ℕ → Size → Type 0) → ((a : Plan) → Bounded a → is_small (size_in (in_copies n a)) ≡ true → P (plan a) (plan (in_copies n a)) (size_in a) n (size_in (in_copies n a))) → {m w : Meaning} {c : Copies} → Copied n m w c → P m w c.part c.times c.whole
 by_copies n P f {m} {w} {c} t =
-    let a = t.one in
-    subst (λ u. P u w c.part c.times c.whole) (sym t.one_is)
-    (subst (λ u. P (plan a) u c.part c.times c.whole) (sym t.whole_is)
-    (subst (λ u. P (plan a) (plan (in_copies n a)) u c.times c.whole) (sym t.part_has)
-    (subst (λ u. P (plan a) (plan (in_copies n a)) (size_in a) u c.whole) (sym t.times_has)
-    (subst (P (plan a) (plan (in_copies n a)) (size_in a) n) (sym t.whole_has) (f a t.one_bounds t.small)))))
+    rw (t.one_is, t.whole_is, t.part_has, t.times_has, t.whole_has) (f t.one t.one_bounds t.small)
 
 -- The laws of all copies are as long as the part's.
 all_lengths : (n : ℕ) (a : Plan) → Bounded a → (s k : ℕ) → every is_term_count (map length (flat_map (λ i. moved_laws (copy_place (size_in a) n i) a) (range_with_len s k))) ≡ true
@@ -113,18 +105,7 @@ module _ (n : ℕ) {m w : Meaning} {c : Copies} (is : Copied n m w c) where
 
   pub copies_proper : Proper w
   copies_proper =
-      by_copies n (λ m w x t z. Proper w)
-      (λ a p s.
-      let t = small_bounds (size_in (in_copies n a)) s in
-      record {
-        two_ends = p.two_ends;
-        few_inner = t.nodes;
-        few_variables = t.variables;
-        few_rows = t.rows;
-        few_laws = t.laws;
-        law_lengths = all_lengths n a p 0 n;
-      })
-      is
+      by_copies n (λ m w x t z. Proper w) (λ a p s. bounded (in_copies n a) p.two_ends s (all_lengths n a p 0 n)) is
 
 module _ (n : ℕ) {m w : Meaning} {c : Copies} (is : Copied n m w c) (k : ℕ) where
   pub row_copied : {p : Renumbering} {x r : Option PlanRow} (s : Spot) → IsSpot c.part.rows c.times k s → p ≡ copy_place c.part c.times s.copy → x ≡ slice_get (rows_of m) s.place → r ≡ option_map (moved_row p) x → r ≡ slice_get (rows_of w) k
@@ -189,15 +170,7 @@ module _ (n : ℕ) (a : Plan) (p : Bounded a) (i : ℕ) (l : 2 ≤ i) where
   inner_past : length (in_copies n a).inner ≤ i - 2 → None ≡ slice_get (a.ends ++ (in_copies n a).inner) i
   inner_past u = sym (inner_at ∙ slice_get_past (in_copies n a).inner (i - 2) u)
 
-ends_kept : (n : ℕ) (a : Plan) → Bounded a → (i : ℕ) → i < 2 → slice_get (a.ends ++ a.inner) i ≡ slice_get (a.ends ++ (in_copies n a).inner) i
-ends_kept n a p i l =
-    let front : i < length a.ends = omega (arith, p.two_ends) in
-    nth_append_left a.ends a.inner i front ∙ sym (nth_append_left a.ends (in_copies n a).inner i front)
-
 module _ (n : ℕ) {m w : Meaning} {c : Copies} (is : Copied n m w c) (i : ℕ) where
-  pub domain_end : i < 2 → slice_get (domains_of m) i ≡ slice_get (domains_of w) i
-  domain_end = by_copies n (λ m w x t z. i < 2 → slice_get (domains_of m) i ≡ slice_get (domains_of w) i) (λ a p q. ends_kept n a p i) is
-
   pub domain_copied : 2 ≤ i → (s : Spot) → IsSpot c.part.inner c.times (i - 2) s → slice_get (domains_of m) (2 + s.place) ≡ slice_get (domains_of w) i
   domain_copied h s =
       by_copies n (λ m w x t z. IsSpot x.inner t (i - 2) s → slice_get (domains_of m) (2 + s.place) ≡ slice_get (domains_of w) i)
