@@ -1,6 +1,6 @@
 -- Writing over a list, piece after piece. Assumes nothing.
-use Rattle.std.proofs.Common.{◌≡◌, ℕ, ◌+◌, ◌<◌, ◌≤◌, List, [], ◌∷◌, ◌++◌, length, get_or, take, drop, set, sym, ap, ◌∙◌, arith}
-use Rattle.std.proofs.lemmas.List.{append-nil, append_assoc, length-append, length-take-le, take-append-drop, drop_more, drop-drop, set_at, take_at, drop_at, length_push, take_more}
+use Rattle.std.proofs.Common.{◌≡◌, ℕ, ◌+◌, ◌≤◌, List, [], ◌++◌, length, take, drop, sym, ap, ◌∙◌, arith}
+use Rattle.std.proofs.lemmas.List.{append-nil, append_assoc, length-append, length-take-le, take-append-drop, drop-drop, take_at, drop_at}
 use Rattle.netlist.specs.Buffers.{written, over}
 
 module _ {X : Type 0} where
@@ -12,29 +12,6 @@ module _ {X : Type 0} where
     where
       zero_right : a + 0 ≡ a
       zero_right = omega arith
-
-  -- one element more
-  pub written_push : (old new : List X) (a : ℕ) (x : X) → a + length new < length old → set (written old a new) (a + length new) x ≡ written old a (new ++ x ∷ [])
-  written_push old new a x h =
-      let n = a + length new in
-      let last : n + 1 ≡ a + length (new ++ x ∷ []) = omega (arith, length_push new x) in
-      ap (λ (back : List X). set ((take a old ++ new) ++ back) n x) (drop_more old n x h)
-      ∙ set_at (take a old ++ new) (get_or old n x) (drop (n + 1) old) x n (front_length old new a (omega arith))
-      ∙ sym (append_assoc (take a old ++ new) (x ∷ []) (drop (n + 1) old))
-      ∙ (λ i. append_assoc (take a old) new (x ∷ []) i ++ drop (last i) old)
-
-  -- one element before a piece
-  pub written_front : (old new : List X) (a : ℕ) (x : X) → a < length old → set (written old (a + 1) new) a x ≡ written old a (x ∷ new)
-  written_front old new a x h =
-      let back = drop (a + 1 + length new) old in
-      let front = take a old in
-      let y = get_or old a x in
-      let last : a + 1 + length new ≡ a + length (x ∷ new) = omega arith in
-      ap (λ (f : List X). set ((f ++ new) ++ back) a x) (take_more old a x h)
-      ∙ ap (λ (l : List X). set l a x) (append_assoc (front ++ y ∷ []) new back ∙ append_assoc front (y ∷ []) (new ++ back))
-      ∙ set_at front y (new ++ back) x a (length-take-le a old (omega arith))
-      ∙ sym (append_assoc front (x ∷ new) back)
-      ∙ ap (λ (n : ℕ). (front ++ x ∷ new) ++ drop n old) last
 
   -- a second piece behind the first
   pub written_written : (old xs ys : List X) (a : ℕ) → a + length xs + length ys ≤ length old → written (written old a xs) (a + length xs) ys ≡ written old a (xs ++ ys)
