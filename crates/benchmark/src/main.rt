@@ -10,6 +10,7 @@ use sheet::{Draft, Sheet};
 use std::alloc::{AllocError, Global};
 use std::time::Instant;
 
+// As in `rigcobase`: a crate for one number would be no plainer.
 const LINE_BYTES: usize = 16_384;
 
 // 1,000 nodes in one domain, 4,000 variables, 1,500 branches and 1,500 laws of four terms.

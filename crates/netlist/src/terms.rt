@@ -50,8 +50,9 @@ impl Term {
     }
 }
 
-// A term as a caller writes it, before it is judged: order 0 is the value, order 1 the rate. What
-// numbers variables is a parameter, since a plan's variables are numbered more narrowly than a sheet's.
+// A term as a caller writes it, before it is judged: order 0 is the value, order 1 the rate, and any other
+// number may stand there and is refused. What numbers variables is a parameter, since a plan's variables
+// are numbered more narrowly than a sheet's.
 #[derive(Clone, Copy, PartialEq, Eq, Debug)]
 pub struct RawTerm<N = usize> {
     pub coefficient: i64,
