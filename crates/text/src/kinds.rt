@@ -8,7 +8,7 @@ pub enum Kind {
 }
 
 // The most terms of a law.
-pub(crate) const MOST_TERMS: usize = 8;
+pub const MOST_TERMS: usize = 8;
 
 // Of a node and of variables.
 pub(crate) const VALUE: [Kind; 1] = [Kind::Number];

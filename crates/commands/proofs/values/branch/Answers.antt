@@ -1,9 +1,11 @@
-use Rattle.text.specs.Reading.{rest_of}
-use Rattle.commands.proofs.Readers.{branch_read}
+use Rattle.commands.specs.Steps.{branch_kinds}
+use Rattle.commands.proofs.Readers.{left_all, number_at}
 use Rattle.commands.proofs.values.branch.Goals as goal
 
 pub returns : goal.returns
-returns c =
-    branch_read (rest_of c.args.fields) (rest_of c.next_size-flow.new.fields) (rest_of c.next_size-across.new.fields) (rest_of c.next_size-first.new.fields) (rest_of c.next_size-second.new.fields)
-    c.next_size-flow.result c.next_size-across.result c.next_size-first.result c.next_size-second.result
-    c.next_size-flow.ensures c.next_size-across.ensures c.next_size-first.ensures c.next_size-second.ensures
+returns c = λ gs here kinds.
+    let v₀ = number_at gs 0 _ _ _ _ c.next_size-flow.ensures (left_all gs branch_kinds _ here kinds) in
+    let v₁ = number_at gs 1 _ _ _ _ c.next_size-across.ensures v₀.1 in
+    let v₂ = number_at gs 2 _ _ _ _ c.next_size-first.ensures v₁.1 in
+    let v₃ = number_at gs 3 _ _ _ _ c.next_size-second.ensures v₂.1 in
+    cc (v₀.0, v₁.0, v₂.0, v₃.0)

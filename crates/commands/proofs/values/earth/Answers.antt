@@ -1,9 +1,10 @@
-use Rattle.text.specs.Reading.{rest_of}
-use Rattle.commands.proofs.Readers.{earth_read}
+use Rattle.commands.specs.Steps.{earth_kinds}
+use Rattle.commands.proofs.Readers.{left_all, number_at}
 use Rattle.commands.proofs.values.earth.Goals as goal
 
 pub returns : goal.returns
-returns c =
-    earth_read (rest_of c.args.fields) (rest_of c.next_size-flow.new.fields) (rest_of c.next_size-across.new.fields) (rest_of c.next_size-node.new.fields)
-    c.next_size-flow.result c.next_size-across.result c.next_size-node.result
-    c.next_size-flow.ensures c.next_size-across.ensures c.next_size-node.ensures
+returns c = λ gs here kinds.
+    let v₀ = number_at gs 0 _ _ _ _ c.next_size-flow.ensures (left_all gs earth_kinds _ here kinds) in
+    let v₁ = number_at gs 1 _ _ _ _ c.next_size-across.ensures v₀.1 in
+    let v₂ = number_at gs 2 _ _ _ _ c.next_size-node.ensures v₁.1 in
+    cc (v₀.0, v₁.0, v₂.0)

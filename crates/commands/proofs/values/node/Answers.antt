@@ -1,9 +1,8 @@
-use Rattle.text.specs.Reading.{rest_of}
-use Rattle.commands.proofs.Readers.{node_read}
+use Rattle.commands.specs.Steps.{node_kinds}
+use Rattle.commands.proofs.Readers.{left_all, number_at}
 use Rattle.commands.proofs.values.node.Goals as goal
 
 pub returns : goal.returns
-returns c =
-    node_read (rest_of c.args.fields) (rest_of c.next_number-domain.new.fields)
-    c.next_number-domain.result
-    c.next_number-domain.ensures
+returns c = λ gs here kinds.
+    let v₀ = number_at gs 0 _ _ _ _ c.next_number-domain.ensures (left_all gs node_kinds _ here kinds) in
+    cc (v₀.0)
