@@ -1,5 +1,5 @@
 -- The terms of a law, slot by slot. Assumes nothing.
-use Rattle.std.proofs.Common.{◌≡◌, ℕ, zero, suc, ◌+◌, ◌-◌, ◌<◌, ◌≤◌, List, [], ◌∷◌, ◌++◌, length, set, replicate, sym, refl, ap, ◌∙◌, append_assoc, append-nil, arith, length-append}
+use Rattle.std.proofs.Common.{◌≡◌, ℕ, zero, suc, ◌+◌, ◌-◌, ◌<◌, ◌≤◌, List, [], ◌∷◌, ◌++◌, length, set, replicate, sym, ap, ◌∙◌, append_assoc, append-nil, arith, length-append}
 use Rattle.std.proofs.lemmas.List.{set_at}
 use Rattle.netlist.specs.declared.terms.RawTerm.{RawTerm}
 use Rattle.text.specs.declared.kinds.Kind.TheVariants.{Number, Coefficient}
@@ -23,14 +23,6 @@ pub record Filled (s : Bytes) (terms : Terms) (t : Bytes) : Type 0 where
   pub size : length done ≡ terms.count
   pub stored : terms.slots ≡ done ++ replicate (8 - terms.count) no_term
   pub left : (n : ℕ) (gs : List Bytes) → n ≤ 8 → s ≡ row gs → Matches (repeated n term_kinds) gs → Left gs n done t
-
-pub filled_none : (s : Bytes) (z : RawTerm ℕ) → z ≡ no_term → Filled s (record { slots = replicate 8 z; count = 0 }) s
-filled_none s z is = record {
-  done = [];
-  size = refl;
-  stored = ap (replicate 8) is;
-  left = λ n gs few here kinds. record { groups = n; fields = gs; count = omega arith; here = here; kinds = kinds; terms = refl };
-}
 
 -- what a turn reads
 abbrev pub Turn : Bytes → RawTerm ℕ → Bytes → Type 0

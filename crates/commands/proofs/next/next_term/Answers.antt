@@ -1,15 +1,6 @@
-use Rattle.std.proofs.Common.{Some, ◌∷◌, ◌∙◌, w64, to_z, of_z}
-use Rattle.text.specs.declared.kinds.Kind.TheVariants.{Coefficient}
-use Rattle.text.proofs.Words.{text_unbroken}
+use Rattle.std.proofs.Common.{Some, ◌∙◌, w64, to_z, of_z}
 use Rattle.commands.proofs.Stepwise.{coefficient_read, term_read, widened}
 use Rattle.commands.proofs.next.next_term.Goals as goal
-
-pub returns-in_err-field : goal.returns-in_err-field
-returns-in_err-field c =
-    rw c.from_residual.ensures (record {
-      term = λ x y z gs here coefficient order variable. c.in_err-field.ensures.steps.first x (y ∷ z ∷ gs) here (text_unbroken Coefficient x coefficient);
-      none = λ empty. tt;
-    })
 
 pub returns-clause-term : goal.returns-clause-term
 returns-clause-term c =

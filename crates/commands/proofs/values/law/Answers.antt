@@ -1,10 +1,6 @@
-use Rattle.std.proofs.Common.{refl, arith}
-use Rattle.text.specs.Reading.{rest_of}
-use Rattle.commands.proofs.Slots.{filled_none, filled_more, filled_end, filled_full}
+use Rattle.std.proofs.Common.{arith}
+use Rattle.commands.proofs.Slots.{filled_more, filled_end, filled_full}
 use Rattle.commands.proofs.values.law.Goals as goal
-
-pub loop-init : goal.loop-init
-loop-init c = (refl, filled_none (rest_of c.args.fields) c.value.result c.value.ensures)
 
 pub loop-preserved : goal.loop-preserved
 loop-preserved c =
