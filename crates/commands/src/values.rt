@@ -71,6 +71,7 @@ pub(crate) fn repeat(mut fields: Fields<'_>) -> Command
 pub(crate) fn law(mut fields: Fields<'_>) -> Terms
     ensures { ReadsLaw (rest_of fields.entry) result }
 {
+    // A slot without a term is zero.
     let mut terms = Terms {
         slots: [RawTerm::value(0, 0); MOST_TERMS],
         count: 0,

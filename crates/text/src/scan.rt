@@ -4,7 +4,7 @@ ghost use Rattle.text.specs.Grammar.{Allowed, form, groups};
 ghost use Rattle.text.specs.Faults.{FaultAt};
 ghost use Rattle.text.specs.Scan.{Slot, marked, none, Fillable, Skips, ByteTaken, SignEnd, DigitRun};
 
-use super::kinds::Kind;
+use super::kinds::{Kind, Shape};
 use super::line::Fault;
 
 const MOST_DIGITS: usize = 7;
@@ -37,7 +37,7 @@ impl Scanner<'_> {
         }
     }
 
-    // Takes the byte, if it stands here.
+    // Takes the byte if it stands here, and answers whether it does.
     fn take(&mut self, byte: u8) -> bool
         ensures same { self.new.line.now ≡ self.old.line.now }
         ensures taken { ByteTaken self.old.line.now self.old.at byte result self.new.at }
@@ -91,15 +91,15 @@ impl Scanner<'_> {
     }
 }
 
-// Whether the line has one to `most` groups of these kinds after its letter, or where it goes wrong.
-pub(crate) fn scan(line: &[u8], kinds: &[Kind], most: usize) -> Result<(), Fault>
-    requires some { (1 ≤ length line.now) × ((1 ≤ length kinds.now) × (1 ≤ most)) }
-    requires kind { form (slice_index line.now 0) ≡ groups kinds.now most }
+// Whether the line has this shape after its letter, or where it goes wrong.
+pub(crate) fn scan(line: &[u8], shape: Shape) -> Result<(), Fault>
+    requires some { 1 ≤ length line.now }
+    requires form { form (slice_index line.now 0) ≡ groups shape.kinds.now shape.most }
     ensures { MatchResult result (λ _. Allowed line.now) (λ f. FaultAt Allowed line.now f.column) }
 {
     let mut scanner = Scanner { line, at: 1 };
-    for _ in 0..most {
-        scanner.group(kinds)?;
+    for _ in 0..shape.most {
+        scanner.group(shape.kinds)?;
         if scanner.at == line.len() {
             return Ok(());
         }

@@ -1,5 +1,5 @@
 use super::whole::{Place, first_fault};
-use commands::{Command, read_command};
+use commands::{Command, Terms, read_command};
 use netlist::terms::RawTerm;
 use std::alloc::{AllocError, Global};
 use std::test::Fail;
@@ -17,19 +17,22 @@ fn said(bytes: &[u8]) -> Option<Command> {
     read_command(TextLine { number: 1, bytes }).ok()
 }
 
-// The first term of a law.
-fn first_term(bytes: &[u8]) -> Option<RawTerm> {
-    match said(bytes) {
-        Some(Command::Law(terms)) => terms.as_slice().first().copied(),
+// The terms of a law.
+fn law(bytes: &[u8]) -> Option<Terms> {
+    match said(bytes)? {
+        Command::Law(terms) => Some(terms),
         _ => None,
     }
 }
 
-fn term_count(bytes: &[u8]) -> usize {
-    match said(bytes) {
-        Some(Command::Law(terms)) => terms.as_slice().len(),
-        _ => 0,
-    }
+fn first_term(bytes: &[u8]) -> Option<RawTerm> {
+    let terms = law(bytes)?;
+    terms.as_slice().first().copied()
+}
+
+fn term_count(bytes: &[u8]) -> Option<usize> {
+    let terms = law(bytes)?;
+    Some(terms.as_slice().len())
 }
 
 // A line, and the column where it goes wrong, if it does.
@@ -210,10 +213,10 @@ fn laws(rt: HostRuntime) {
             variable: 4,
         })
     );
-    assert_eq!(rt; term_count(b"L 1 0 1 2 0 2"), 2);
+    assert_eq!(rt; term_count(b"L 1 0 1 2 0 2"), Some(2));
     assert_eq!(rt;
         term_count(b"L 1 0 1 2 0 2 3 0 3 4 0 4 5 0 5 6 0 6 7 0 7 8 0 8"),
-        8
+        Some(8)
     );
     assert_eq!(rt;
         column(b"L 1 0 1 2 0 2 3 0 3 4 0 4 5 0 5 6 0 6 7 0 7 8 0 8 9 0 9"),

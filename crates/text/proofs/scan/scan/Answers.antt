@@ -9,8 +9,8 @@ use Rattle.text.proofs.scan.scan.Goals as goal
 
 pub loop-init : goal.loop-init
 loop-init c =
-    let ks = c.args.kinds.now in
-    let n = c.args.most in
+    let ks = c.args.shape.kinds.now in
+    let n = c.args.shape.most in
     let all : n ≡ n - 0 = omega arith in
     record {
       same = refl;
@@ -23,27 +23,27 @@ returns-in_err-group c =
     let p = err_from_is_err_and c.from_residual.result c.from_residual.ensures.1 in
     let told = c.in_err-group.ensures in
     let was = c.loop.invariant in
-    let ks = c.args.kinds.now in
-    let n = c.args.most in
+    let ks = c.args.shape.kinds.now in
+    let n = c.args.shape.most in
     rw (p.1, p.2)
-    (fault_any ks c.args.line.now n _ (omega arith) c.requires.kind (omega (arith, told.places))
+    (fault_any ks c.args.line.now n _ (omega arith) c.requires.form (omega (arith, told.places))
     (layout_more (λ all l ts. FaultAt (Laid all) l c.in_err-group.field-0.0.column) _ _ ks n c.loop.counter _ was.same (omega arith) (omega arith) told.skips was.gap))
 
 pub returns-then-scanner-line : goal.returns-then-scanner-line
 returns-then-scanner-line c =
     let told = c.in_ok-group.ensures in
     let was = c.loop.invariant in
-    let ks = c.args.kinds.now in
-    let n = c.args.most in
+    let ks = c.args.shape.kinds.now in
+    let n = c.args.shape.most in
     let gap = layout_more (λ all l ts. Gap all l c.group.new.self.at true ts) _ _ ks n c.loop.counter _ was.same (omega arith) (omega arith) told.skips was.gap in
-    allowed_any ks c.args.line.now n (omega arith) c.requires.kind (gap.end_out c.if-scanner-line.true refl)
+    allowed_any ks c.args.line.now n (omega arith) c.requires.form (gap.end_out c.if-scanner-line.true refl)
 
 pub loop-preserved : goal.loop-preserved
 loop-preserved c =
     let told = c.in_ok-group.ensures in
     let was = c.loop.invariant in
-    let ks = c.args.kinds.now in
-    let n = c.args.most in
+    let ks = c.args.shape.kinds.now in
+    let n = c.args.shape.most in
     let gap = layout_more (λ all l ts. Gap all l c.group.new.self.at true ts) _ _ ks n c.loop.counter _ was.same (omega arith) (omega arith) told.skips was.gap in
     let same = told.same ∙ was.same in
     let long = ap length same in
@@ -52,10 +52,10 @@ loop-preserved c =
 pub returns : goal.returns
 returns c =
     let was = c.loop.invariant in
-    let ks = c.args.kinds.now in
-    let n = c.args.most in
+    let ks = c.args.shape.kinds.now in
+    let n = c.args.shape.most in
     let long = ap length was.same in
     let here : c.loop.scanner.at + 1 ≡ c.fault.result.column = omega arith in
     subst (FaultAt Allowed c.args.line.now) here
-    (fault_any ks c.args.line.now n _ (omega arith) c.requires.kind (omega (arith, was.on))
+    (fault_any ks c.args.line.now n _ (omega arith) c.requires.form (omega (arith, was.on))
     (last_fault _ (omega arith) (gap_last ks n c.loop.counter _ (omega arith) was.gap)))

@@ -6,5 +6,5 @@ abbrev pub invariant-loop : goal.invariant-loop
 invariant-loop l = record {
   same : l.scanner.line.now ≡ l.line;
   on : 1 ≤ l.scanner.at;
-  gap : Gap (layout l.kinds l.most) l.line l.scanner.at false (layout l.kinds (l.most - l.counter));
+  gap : Gap (layout l.shape.kinds.now l.shape.most) l.line l.scanner.at false (layout l.shape.kinds.now (l.shape.most - l.counter));
 }
