@@ -1,5 +1,5 @@
 -- The terms of a law, slot by slot. Assumes nothing.
-use Rattle.std.proofs.Common.{◌≡◌, ℕ, zero, suc, ◌+◌, ◌-◌, ◌<◌, ◌≤◌, List, [], ◌∷◌, ◌++◌, length, set, replicate, sym, refl, ap, ◌∙◌, append_assoc, append-nil, arith, length-append}
+use Rattle.std.proofs.Common.{◌≡◌, ℕ, zero, suc, ◌+◌, ◌-◌, ◌<◌, ◌≤◌, List, [], ◌∷◌, ◌++◌, length, set, replicate, sym, ap, ◌∙◌, append_assoc, append-nil, arith, length-append}
 use Rattle.std.proofs.lemmas.List.{set_at}
 use Rattle.netlist.specs.declared.terms.RawTerm.{RawTerm}
 use Rattle.text.specs.declared.kinds.Kind.TheVariants.{Number, Coefficient}
@@ -17,20 +17,12 @@ pub record Left (gs : List Bytes) (n : ℕ) (done : List (RawTerm ℕ)) (t : Byt
   pub kinds : Matches (repeated groups term_kinds) fields
   pub terms : terms_of gs ≡ done ++ terms_of fields
 
--- of the rest s, so many terms are in their slots, and t is left
-pub record Filled (s : Bytes) (count : ℕ) (slots : List (RawTerm ℕ)) (t : Bytes) : Type 0 where
+-- of the rest s, these terms are in their slots, and t is left
+pub record Filled (s : Bytes) (terms : Terms) (t : Bytes) : Type 0 where
   pub done : List (RawTerm ℕ)
-  pub size : length done ≡ count
-  pub stored : slots ≡ done ++ replicate (8 - count) no_term
+  pub size : length done ≡ terms.count
+  pub stored : terms.slots ≡ done ++ replicate (8 - terms.count) no_term
   pub left : (n : ℕ) (gs : List Bytes) → n ≤ 8 → s ≡ row gs → Matches (repeated n term_kinds) gs → Left gs n done t
-
-pub filled_none : (s : Bytes) → Filled s 0 (replicate 8 no_term) s
-filled_none s = record {
-  done = [];
-  size = refl;
-  stored = refl;
-  left = λ n gs few here kinds. record { groups = n; fields = gs; count = omega arith; here = here; kinds = kinds; terms = refl };
-}
 
 -- what a turn reads
 abbrev pub Turn : Bytes → RawTerm ℕ → Bytes → Type 0
@@ -58,52 +50,54 @@ one_more gs n done t u v turn some l = go l.groups l.fields l.count l.here l.kin
           terms = terms ∙ ap (λ (x : RawTerm ℕ). done ++ x ∷ terms_of fs) (sym got.0) ∙ sym (append_assoc done (v ∷ []) (terms_of fs));
         }
 
-pub filled_more : (s : Bytes) (count : ℕ) (slots : List (RawTerm ℕ)) (t : Bytes) (v : RawTerm ℕ) (u : Bytes) → count < 8 → Turn t v u → (t ≡ [] → ⊥) → Filled s count slots t → Filled s (count + 1) (set slots count v) u
-filled_more s count slots t v u room turn some f =
-    let rest : 8 - count ≡ suc (8 - (count + 1)) = omega arith in
-    let empty = replicate (8 - (count + 1)) no_term in
-    let open-slot : slots ≡ f.done ++ no_term ∷ empty = f.stored ∙ ap (λ k. f.done ++ replicate k no_term) rest in
+pub filled_more : (s : Bytes) (terms more : Terms) (t : Bytes) (v : RawTerm ℕ) (u : Bytes) → terms.count < 8 → (more.slots ≡ set terms.slots terms.count v) × (more.count ≡ terms.count + 1) → Turn t v u → (t ≡ [] → ⊥) → Filled s terms t → Filled s more u
+filled_more s terms more t v u room pushed turn some f =
+    let rest : 8 - terms.count ≡ suc (8 - (terms.count + 1)) = omega arith in
+    let empty = replicate (8 - (terms.count + 1)) no_term in
+    let open-slot : terms.slots ≡ f.done ++ no_term ∷ empty = f.stored ∙ ap (λ k. f.done ++ replicate k no_term) rest in
     let long = length-append f.done (v ∷ []) in
     let size = f.size in
+    let count = pushed.1 in
     record {
       done = f.done ++ v ∷ [];
       size = omega arith;
-      stored = ap (λ (x : List (RawTerm ℕ)). set x count v) open-slot ∙ set_at f.done no_term empty v count size ∙ sym (append_assoc f.done (v ∷ []) empty);
+      stored =
+          pushed.0
+          ∙ ap (λ (x : List (RawTerm ℕ)). set x terms.count v) open-slot
+          ∙ set_at f.done no_term empty v terms.count size
+          ∙ sym (append_assoc f.done (v ∷ []) empty)
+          ∙ ap (λ k. (f.done ++ v ∷ []) ++ replicate (8 - k) no_term) (sym count);
       left = λ n gs few here kinds. one_more gs n f.done t u v turn some (f.left n gs few here kinds);
     }
 
-slots_are : (count : ℕ) (slots done : List (RawTerm ℕ)) (ts : List (RawTerm ℕ)) → length done ≡ count → slots ≡ done ++ replicate (8 - count) no_term → ts ≡ done → ◌≡◌ {A = Terms} (record { slots = slots; count = count }) (slotted ts)
-slots_are count slots done ts size stored same =
-    let n : count ≡ length ts = sym size ∙ ap length (sym same) in
-    let xs : slots ≡ ts ++ replicate (8 - length ts) no_term = stored ∙ ap (λ (x : List (RawTerm ℕ)). x ++ replicate (8 - count) no_term) (sym same) ∙ ap (λ k. ts ++ replicate (8 - k) no_term) n in
-    cc
+slots_are : (terms : Terms) (done ts : List (RawTerm ℕ)) → length done ≡ terms.count → terms.slots ≡ done ++ replicate (8 - terms.count) no_term → ts ≡ done → terms ≡ slotted ts
+slots_are terms done ts size stored same =
+    let n : terms.count ≡ length ts = sym size ∙ ap length (sym same) in
+    let xs : terms.slots ≡ ts ++ replicate (8 - length ts) no_term = stored ∙ ap (λ (x : List (RawTerm ℕ)). x ++ replicate (8 - terms.count) no_term) (sym same) ∙ ap (λ k. ts ++ replicate (8 - k) no_term) n in
+    let both : ◌≡◌ {A = Terms} (record { slots = terms.slots; count = terms.count }) (slotted ts) = cc in
+    both
 
 -- no field is left where all groups are read
 all_read : (fs : List Bytes) (done : List (RawTerm ℕ)) → Matches (repeated 0 term_kinds) fs → done ++ terms_of fs ≡ done
 all_read [] done h = append-nil done
 all_read (f ∷ fs) done h = absurd h
 
--- the reading stops where no term is left
-pub filled_end : (s : Bytes) (count : ℕ) (slots : List (RawTerm ℕ)) (t : Bytes) → ((a b c : Bytes) (gs : List Bytes) → t ≡ row (a ∷ b ∷ c ∷ gs) → Text Coefficient a → Text Number b → Text Number c → ⊥) → Filled s count slots t → ReadsLaw s (record { slots = slots; count = count })
-filled_end s count slots t none f n gs few here kinds = slots_are count slots f.done (terms_of gs) f.size f.stored (go l.groups l.fields l.here l.kinds l.terms)
-  where
-    l : Left gs n f.done t
-    l = f.left n gs few here kinds
+module _ (s : Bytes) (terms : Terms) (t : Bytes) (f : Filled s terms t) where
+  -- the reading stops where no term is left
+  pub filled_end : ((a b c : Bytes) (gs : List Bytes) → t ≡ row (a ∷ b ∷ c ∷ gs) → Text Coefficient a → Text Number b → Text Number c → ⊥) → ReadsLaw s terms
+  filled_end none n gs few here kinds = let l = f.left n gs few here kinds in slots_are terms f.done (terms_of gs) f.size f.stored (go l.groups l.fields l.here l.kinds l.terms)
+    where
+      go : (m : ℕ) (fs : List Bytes) → t ≡ row fs → Matches (repeated m term_kinds) fs → terms_of gs ≡ f.done ++ terms_of fs → terms_of gs ≡ f.done
+      go zero fs at h e = e ∙ all_read fs f.done h
+      go (suc m) [] at h e = absurd h
+      go (suc m) (a ∷ []) at h e = absurd h.1
+      go (suc m) (a ∷ b ∷ []) at h e = absurd h.1.1
+      go (suc m) (a ∷ b ∷ c ∷ fs) at h e = absurd (none a b c fs at h.0 h.1.0 h.1.1.0)
 
-    go : (m : ℕ) (fs : List Bytes) → t ≡ row fs → Matches (repeated m term_kinds) fs → terms_of gs ≡ f.done ++ terms_of fs → terms_of gs ≡ f.done
-    go zero fs at h e = e ∙ all_read fs f.done h
-    go (suc m) [] at h e = absurd h
-    go (suc m) (a ∷ []) at h e = absurd h.1
-    go (suc m) (a ∷ b ∷ []) at h e = absurd h.1.1
-    go (suc m) (a ∷ b ∷ c ∷ fs) at h e = absurd (none a b c fs at h.0 h.1.0 h.1.1.0)
-
--- or where the slots are full
-pub filled_full : (s : Bytes) (slots : List (RawTerm ℕ)) (t : Bytes) → Filled s 8 slots t → ReadsLaw s (record { slots = slots; count = 8 })
-filled_full s slots t f n gs few here kinds = slots_are 8 slots f.done (terms_of gs) f.size f.stored (go l.groups l.fields l.count l.kinds l.terms)
-  where
-    l : Left gs n f.done t
-    l = f.left n gs few here kinds
-
-    go : (m : ℕ) (fs : List Bytes) → m + length f.done ≡ n → Matches (repeated m term_kinds) fs → terms_of gs ≡ f.done ++ terms_of fs → terms_of gs ≡ f.done
-    go zero fs count h e = e ∙ all_read fs f.done h
-    go (suc m) fs count h e = let size = f.size in absurd (omega arith)
+  -- or where the slots are full
+  pub filled_full : 8 ≤ terms.count → ReadsLaw s terms
+  filled_full full n gs few here kinds = let l = f.left n gs few here kinds in slots_are terms f.done (terms_of gs) f.size f.stored (go l.groups l.fields l.count l.kinds l.terms)
+    where
+      go : (m : ℕ) (fs : List Bytes) → m + length f.done ≡ n → Matches (repeated m term_kinds) fs → terms_of gs ≡ f.done ++ terms_of fs → terms_of gs ≡ f.done
+      go zero fs count h e = e ∙ all_read fs f.done h
+      go (suc m) fs count h e = let size = f.size in absurd (omega arith)

@@ -1,15 +1,18 @@
 -- The value of a field, by how it is written. Assumes nothing.
-use Rattle.std.proofs.Common.{◌≡◌, ◌<◌, ◌≤◌, eqb, [], ◌∷◌, length, get_or, ℤ, pos, neg_ℤ, sym, ap, ◌∙◌, subst, ⊎_elim, arith, w32, w64, to_z, of_z}
+use Rattle.std.proofs.Common.{◌≡◌, ℕ, ◌<◌, ◌≤◌, Option, Some, None, MatchOption, eqb, [], ◌∷◌, length, get_or, ℤ, pos, neg_ℤ, sym, ap, ◌∙◌, subst, ⊎_elim, arith, w32, w64, to_z, of_z}
 use lib.Signed.{mag}
 use Rattle.std.proofs.lemmas.Int.{ints}
 use Rattle.std.proofs.lemmas.Bool.{ne_eqb, cond-false}
-use Rattle.text.specs.declared.kinds.Kind.TheVariants.{Coefficient}
+use Rattle.text.specs.declared.kinds.Kind.TheVariants.{Number, Coefficient}
 use Rattle.text.specs.declared.line.Field.{Field}
+use Rattle.text.specs.declared.line.Fields.{Fields}
 use Rattle.text.specs.declared.line.Field.TheVariants.{Unsigned, Negative}
 use Rattle.text.specs.Grammar.{Bytes, Plain, Text}
 use Rattle.text.specs.Decimal.{decimal, signed}
-use Rattle.text.specs.Reading.{digits_of, value_of, Spells}
+use Rattle.text.specs.Reading.{digits_of, value_of, Spells, FieldStep, rest_of}
 use Rattle.text.proofs.Steps.{tail_same}
+use Rattle.text.proofs.Words.{text_unbroken}
+use Rattle.commands.specs.Steps.{ReadsNumber, ReadsCoefficient, ReadsTerm}
 
 -- a field that is written as digits is unsigned
 pub number_digits : (f : Field) (g : Bytes) → Spells f g → Plain g → (length (digits_of f) ≤ 7) × (digits_of f ≡ g)
@@ -42,6 +45,32 @@ coefficient_value (Negative d n k) g s t =
   where
     minus : Plain (45 ∷ d.now) → ⊥
     minus q = let h = q.digits.0 in omega arith
+
+-- what is read where a field is taken, and 0 where none is
+pub number_read : (s t : Fields) (o : Option Field) (r : ℕ) → FieldStep s o t → MatchOption o (r ≡ 0) (λ f. length (digits_of f) ≤ 7 → r ≡ decimal (digits_of f)) → ReadsNumber (rest_of s) r (rest_of t)
+number_read s t None r step is g gs here plain = absurd (step.first g gs here (text_unbroken Number g plain))
+number_read s t (Some f) r step is g gs here plain =
+    let told = step.first g gs here (text_unbroken Number g plain) in
+    let digits = number_digits f g told.0 plain in
+    (is digits.0 ∙ ap decimal digits.1, told.1)
+
+pub coefficient_read : (s t : Fields) (o : Option Field) (r : ℤ) → FieldStep s o t → MatchOption o (r ≡ pos 0) (λ f. length (digits_of f) ≤ 7 → r ≡ value_of f) → ReadsCoefficient (rest_of s) r (rest_of t)
+coefficient_read s t None r step is g gs here kind = absurd (step.first g gs here (text_unbroken Coefficient g kind))
+coefficient_read s t (Some f) r step is g gs here kind =
+    let told = step.first g gs here (text_unbroken Coefficient g kind) in
+    let value = coefficient_value f g told.0 kind in
+    (is value.0 ∙ value.1, told.1)
+
+-- the three fields of a term
+pub term_read : (s t u w : Bytes) (c : ℤ) (o v : ℕ) → ReadsCoefficient s c t → ReadsNumber t o u → ReadsNumber u v w → ReadsTerm s (Some (record { coefficient = c; order = o; variable = v })) w
+term_read s t u w c o v first second third x y z gs here coefficient order variable =
+    let a = first x (y ∷ z ∷ gs) here coefficient in
+    let b = second y (z ∷ gs) a.1 order in
+    let d = third z gs b.1 variable in
+    let a_is = a.0 in
+    let b_is = b.0 in
+    let d_is = d.0 in
+    (cc, d.1)
 
 -- a coefficient passes through its bits unchanged
 pub kept : (z : ℤ) → mag z < 9223372036854775808 → to_z w64 (of_z w64 z) ≡ z

@@ -31,12 +31,12 @@ ReadsNumber s r t = (g : Bytes) (gs : List Bytes) → s ≡ row (g ∷ gs) → T
 abbrev pub ReadsCoefficient : Bytes → ℤ → Bytes → Type 0
 ReadsCoefficient s r t = (g : Bytes) (gs : List Bytes) → s ≡ row (g ∷ gs) → Text Coefficient g → (r ≡ signed g) × (t ≡ row gs)
 
-abbrev pub ReadsTerm : Bytes → Option RawTerm ℕ → Bytes → Type 0
+abbrev pub ReadsTerm : Bytes → Option (RawTerm ℕ) → Bytes → Type 0
 ReadsTerm s r t =
     (a b c : Bytes) (gs : List Bytes) → s ≡ row (a ∷ b ∷ c ∷ gs) → Text Coefficient a → Text Number b → Text Number c
     → MatchOption r ⊥ (λ v. (v ≡ term_of a b c) × (t ≡ row gs))
 
-abbrev pub ReadsNoTerm : Bytes → Option RawTerm ℕ → Type 0
+abbrev pub ReadsNoTerm : Bytes → Option (RawTerm ℕ) → Type 0
 ReadsNoTerm s r = s ≡ [] → IfSome r (λ v. ⊥)
 
 -- where the rest is fields of these kinds, r is what they spell after the letter c

@@ -9,10 +9,7 @@ use text::Fields;
 pub(crate) fn next_number(fields: &mut Fields<'_>) -> u32
     ensures { ReadsNumber (rest_of fields.old) result (rest_of fields.new) }
 {
-    match fields.next() {
-        Some(field) => field.number(),
-        None => 0,
-    }
+    fields.next().map_or(0, |field| field.number())
 }
 
 pub(crate) fn next_size(fields: &mut Fields<'_>) -> usize
@@ -25,10 +22,9 @@ pub(crate) fn next_size(fields: &mut Fields<'_>) -> usize
 pub(crate) fn next_coefficient(fields: &mut Fields<'_>) -> i64
     ensures { ReadsCoefficient (rest_of fields.old) result (rest_of fields.new) }
 {
-    match fields.next() {
-        Some(field) => i64::from(field.coefficient()),
-        None => 0,
-    }
+    fields
+        .next()
+        .map_or(0, |field| i64::from(field.coefficient()))
 }
 
 // The term that the next three fields write, or none where no field is left.
@@ -36,9 +32,7 @@ pub(crate) fn next_term(fields: &mut Fields<'_>) -> Option<RawTerm>
     ensures term { ReadsTerm (rest_of fields.old) result (rest_of fields.new) }
     ensures none { ReadsNoTerm (rest_of fields.old) result }
 {
-    let Some(field) = fields.next() else {
-        return None;
-    };
+    let field = fields.next()?;
     let coefficient = i64::from(field.coefficient());
     let order = next_number(fields);
     let variable = next_size(fields);

@@ -6,9 +6,9 @@ ghost use Rattle.commands.specs.Steps.{Reads, ReadsLaw, node_kinds, branch_kinds
 
 use super::command::Command;
 use super::next::{next_coefficient, next_number, next_size, next_term};
-use super::terms::{MOST_TERMS, Terms};
+use super::terms::Terms;
 use netlist::terms::RawTerm;
-use text::Fields;
+use text::{Fields, MOST_TERMS};
 
 pub(crate) fn node(mut fields: Fields<'_>) -> Command
     ensures { Reads 78 node_kinds (rest_of fields.entry) result }
@@ -68,24 +68,19 @@ pub(crate) fn repeat(mut fields: Fields<'_>) -> Command
     }
 }
 
-const NO_TERM: RawTerm = RawTerm {
-    coefficient: 0,
-    order: 0,
-    variable: 0,
-};
-
 pub(crate) fn law(mut fields: Fields<'_>) -> Terms
     ensures { ReadsLaw (rest_of fields.entry) result }
 {
-    let mut slots = [NO_TERM; 8];
-    for count in 0..MOST_TERMS {
+    // A slot without a term is zero.
+    let mut terms = Terms {
+        slots: [RawTerm::value(0, 0); MOST_TERMS],
+        count: 0,
+    };
+    for _ in 0..MOST_TERMS {
         let Some(term) = next_term(&mut fields) else {
-            return Terms { slots, count };
+            break;
         };
-        slots[count] = term;
+        terms.push(term);
     }
-    Terms {
-        slots,
-        count: MOST_TERMS,
-    }
+    terms
 }

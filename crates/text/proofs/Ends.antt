@@ -1,28 +1,31 @@
 -- The first line of a text, and all of them. Assumes nothing.
-use Rattle.std.proofs.Common.{◌≡◌, ℕ, ◌+◌, ◌-◌, ◌<◌, ◌≤◌, ◌⊎◌, List, [], ◌∷◌, ◌++◌, length, get_or, take, drop, sym, refl, ap, ◌∙◌, subst, inl, inr, ⊎_elim, append_assoc, arith, length-append, length-drop, take-append-drop}
+use Rattle.std.proofs.Common.{◌≡◌, ℕ, zero, suc, ◌+◌, ◌-◌, ◌<◌, ◌≤◌, ◌⊎◌, List, [], ◌∷◌, ◌++◌, length, get_or, take, drop, sym, refl, ap, ◌∙◌, subst, inl, inr, ⊎_elim, append_assoc, arith, length-append, length-drop, take-append-drop}
+use Rattle.std.proofs.lemmas.Bool.{cases_eq}
 use Rattle.std.proofs.lemmas.List.{take_all, drop_all, drop_more, take_rest, get_or-take, length-take-le}
 use Rattle.text.specs.Grammar.{Bytes}
-use Rattle.text.specs.Newlines.{lines_of, OneLine, FirstLine, Splits, rejoined, Rejoins, LineCount}
-use Rattle.text.proofs.Pieces.{cut_none, cut_next, cut_last}
+use Rattle.std.specs.Iterator.{Drains}
+use Rattle.text.specs.declared.line.TextLine.{TextLine}
+use Rattle.text.specs.declared.split.TextLines.{TextLines}
+use Rattle.text.specs.Cut.{onto_first}
+use Rattle.text.specs.Newlines.{lines_of, OneLine, FirstLine, LineStep, Splits, rejoined, Rejoins, LineCount}
+use Rattle.text.proofs.Pieces.{cut_none, cut_here, cut_other, cut_next, cut_last}
 
 -- past the newline at e, or at the end
 abbrev pub Past : Bytes → ℕ → ℕ → Type 0
 Past text e n = ((e < length text) × (n ≡ e + 1)) ⊎ ((length text ≤ e) × (n ≡ e))
 
-pub first_line : (text : Bytes) (e n : ℕ) → 1 ≤ length text → e ≤ length text → ((k : ℕ) → k < e → get_or text k 0 ≡ 10 → ⊥) → (e < length text → get_or text e 0 ≡ 10) → Past text e n → FirstLine text (take (e - 0) text) (take (length text - n) (drop n text))
+pub first_line : (text : Bytes) (e n : ℕ) → 1 ≤ length text → e ≤ length text → ((k : ℕ) → k < e → get_or text k 0 ≡ 10 → ⊥) → (e < length text → get_or text e 0 ≡ 10) → Past text e n → FirstLine text (take e text) (take (length text - n) (drop n text))
 first_line text e n some within before found past =
-    let cut : e - 0 ≡ e = omega arith in
     let long = length-take-le e text within in
     let one : OneLine (take e text) = λ k h is. before k (omega arith) (sym (get_or-take e text k 0 (omega arith)) ∙ is) in
-    subst (λ i. FirstLine text (take i text) (take (length text - n) (drop n text))) (sym cut)
-    (subst (FirstLine text (take e text)) (sym (take_rest text n)) (record {
+    subst (FirstLine text (take e text)) (sym (take_rest text n)) (record {
       whole = one;
       parts =
           ⊎_elim
           (λ p. inl (sym (take-append-drop e text) ∙ ap (λ (x : Bytes). take e text ++ x) (drop_more text e 0 p.0 ∙ ap (λ (x : ℕ). x ∷ drop (e + 1) text) (found p.0) ∙ ap (λ i. 10 ∷ drop i text) (sym p.1))))
           (λ p. let a = p.0 in let b = p.1 in inr (sym (take_all e text a), drop_all n text (omega arith), omega arith))
           past;
-    }))
+    })
 
 pub rest_shorter : (text : Bytes) (e n : ℕ) → 1 ≤ length text → e ≤ length text → Past text e n → length (take (length text - n) (drop n text)) < length text
 rest_shorter text e n some within past =
@@ -52,26 +55,6 @@ splits_rejoin (l ∷ ls) text s =
             (λ p. let n = ap length (sym e ∙ p) in let k = length-append m (10 ∷ h.0) in omega arith)
             (λ p. let n = ap length (sym e ∙ p.0) in let k = p.2 in omega arith)
 
--- the lines ls of a text, and what follows them
-abbrev pub SplitsTo : Bytes → List Bytes → Bytes → Type 0
-SplitsTo text [] rest = text ≡ rest
-SplitsTo text (l ∷ ls) rest = (mid : Bytes) × FirstLine text l mid × SplitsTo mid ls rest
-
-pub splits_more : (ls : List Bytes) (text l mid rest : Bytes) → SplitsTo text ls mid → FirstLine mid l rest → SplitsTo text (ls ++ l ∷ []) rest
-splits_more [] text l mid rest s f = (rest, subst (λ t. FirstLine t l rest) (sym s) f, refl)
-splits_more (m ∷ ls) text l mid rest s f = (s.0, s.1, splits_more ls s.0 l mid rest s.2 f)
-
-pub splits_all : (ls : List Bytes) (text rest : Bytes) → SplitsTo text ls rest → rest ≡ [] → Splits text ls
-splits_all [] text rest s e = s ∙ e
-splits_all (l ∷ ls) text rest s e = (s.0, s.1, splits_all ls s.0 rest s.2 e)
-
--- n lines were taken, and rest is left
-abbrev pub Taken : Bytes → ℕ → Bytes → Type 0
-Taken text n rest = (ls : List Bytes) × SplitsTo text ls rest × (n ≡ length ls)
-
-pub taken_more : (text mid l rest : Bytes) (n : ℕ) → Taken text n mid → FirstLine mid l rest → Taken text (n + 1) rest
-taken_more text mid l rest n t f = (t.0 ++ l ∷ [], splits_more t.0 text l mid rest t.1 f, let p = t.2 in let q = length-append t.0 (l ∷ []) in omega arith)
-
 -- the list of a text's lines begins with its first line
 pub first_listed : (text line rest : Bytes) → FirstLine text line rest → lines_of text ≡ line ∷ lines_of rest
 first_listed text line rest f =
@@ -84,16 +67,36 @@ first_listed text line rest f =
     alone [] one some = absurd (omega arith)
     alone (b ∷ l) one some = cut_last 10 b l one
 
-splits_listed : (ls : List Bytes) (text : Bytes) → Splits text ls → lines_of text ≡ ls
-splits_listed [] text s = ap lines_of s ∙ cut_none 10
-splits_listed (l ∷ ls) text s = first_listed text l s.0 s.1 ∙ ap (λ (x : List Bytes). l ∷ x) (splits_listed ls s.0 s.2)
+-- the text is its lines
+splits_lines : (text : Bytes) → Splits text (lines_of text)
+splits_lines [] = subst (Splits []) (sym (cut_none 10)) refl
+splits_lines (b ∷ bs) =
+    ⊎_elim
+    (λ is. subst (λ x. Splits (x ∷ bs) (lines_of (x ∷ bs))) (sym is) (subst (Splits (10 ∷ bs)) (sym (cut_here 10 bs)) (bs, record { whole = λ k h. omega arith; parts = inl refl }, splits_lines bs)))
+    (λ other. subst (Splits (b ∷ bs)) (sym (cut_other 10 b bs other)) (longer other (lines_of bs) (splits_lines bs)))
+    (cases_eq b 10)
+  where
+    front : (b ≡ 10 → ⊥) → (l : Bytes) → OneLine l → OneLine (b ∷ l)
+    front other l one zero h is = other is
+    front other l one (suc k) h is = one k (omega arith) is
 
-pub line_count : (text : Bytes) (n : ℕ) → Taken text n [] → LineCount text n
-line_count text n taken =
-    let all = splits_all taken.0 text [] taken.1 refl in
-    let listed = splits_listed taken.0 text all in
-    record {
-      count = taken.2 ∙ ap length (sym listed);
-      splits = subst (Splits text) (sym listed) all;
-      rejoins = subst (Rejoins text) (sym listed) (splits_rejoin taken.0 text all);
-    }
+    longer : (b ≡ 10 → ⊥) → (ls : List Bytes) → Splits bs ls → Splits (b ∷ bs) (onto_first b ls)
+    longer other [] s =
+        ([], record { whole = front other [] (λ k h. omega arith); parts = inr (ap (λ (x : Bytes). b ∷ x) s, refl, omega arith) }, refl)
+    longer other (l ∷ ls) s =
+        let f = s.1 in (
+          s.0,
+          record {
+            whole = front other l f.whole;
+            parts = ⊎_elim (λ p. inl (ap (λ (x : Bytes). b ∷ x) p)) (λ p. inr (ap (λ (x : Bytes). b ∷ x) p.0, p.1, omega arith)) f.parts;
+          },
+          s.2,
+        )
+
+pub line_count : (text : Bytes) (n : ℕ) → n ≡ length (lines_of text) → LineCount text n
+line_count text n is = record { count = is; splits = splits_lines text; rejoins = splits_rejoin (lines_of text) text (splits_lines text) }
+
+-- a walk to the end takes all lines
+pub all_taken : (ls : List TextLine) (s : TextLines) → Drains (λ (s : TextLines) r (t : TextLines). LineStep s.rest.now s.taken r t.rest.now t.taken) s ls → length ls ≡ length (lines_of s.rest.now)
+all_taken [] s (u, (t, same, end)) = ap length (sym end.listed) ∙ ap (λ (x : TextLines). length (lines_of x.rest.now)) (sym same)
+all_taken (l ∷ ls) s (u, (t, (j, step, on), end)) = ap suc (all_taken ls j (u, (t, on, end))) ∙ ap length (sym step.listed)

@@ -1,7 +1,5 @@
 -- Groups of fields as slots, and from the lines of one form to all lines. Assumes nothing.
-use Rattle.std.proofs.Common.{◌≡◌, ℕ, zero, suc, ◌-◌, ◌<◌, ◌≤◌, false, List, [], ◌∷◌, ◌++◌, length, get_or, take, sym, refl, ap, ◌∙◌, subst, arith}
-use Rattle.std.specs.List.{between}
-use Rattle.std.proofs.lemmas.Slice.{first_rest}
+use Rattle.std.proofs.Common.{◌≡◌, ℕ, zero, suc, ◌-◌, ◌<◌, ◌≤◌, false, List, [], ◌∷◌, ◌++◌, length, get_or, take, sym, refl, subst, arith}
 use Rattle.text.specs.declared.kinds.Kind.{Kind}
 use Rattle.text.specs.Grammar.{Bytes, Matches, repeated, Grouped, groups, form, Rest, Allowed}
 use Rattle.text.specs.Faults.{Begins, FaultAt}
@@ -73,11 +71,3 @@ allowed_any (k ∷ ks) line n some is h = allowed_form k ks line n is h
 pub fault_any : (ks : List Kind) (line : Bytes) (n column : ℕ) → 1 ≤ length ks → form (get_or line 0 0) ≡ groups ks n → 1 < column → FaultAt (Laid (layout ks n)) line column → FaultAt Allowed line column
 fault_any [] line n column some is h f = absurd (omega arith)
 fault_any (k ∷ ks) line n column some is h f = fault_form k ks line n column is h f
-
--- a list by its first byte
-pub first_is : (line : Bytes) (b : ℕ) → 1 ≤ length line → get_or line 0 0 ≡ b → line ≡ b ∷ between 1 (length line) line
-first_is line b some is = first_rest line 0 some ∙ ap (λ (x : ℕ). x ∷ between 1 (length line) line) is
-
-pub comment_line : (line : Bytes) → 1 ≤ length line → get_or line 0 0 ≡ 35 → Allowed line × (line ≡ 35 ∷ between 1 (length line) line)
-comment_line [] h is = absurd (omega arith)
-comment_line (c ∷ bs) h is = (subst (λ x. Rest (form x) bs) (sym is) tt, first_is (c ∷ bs) 35 h is)

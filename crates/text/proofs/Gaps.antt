@@ -1,6 +1,7 @@
 -- A scan from gap to gap, and the fault where it stops. Assumes nothing.
-use Rattle.std.proofs.Common.{◌≡◌, ℕ, zero, suc, ◌+◌, ◌-◌, ◌<◌, ◌≤◌, Bool, true, false, List, [], ◌∷◌, ◌++◌, length, get_or, take, drop, sym, refl, ap, ◌∙◌, subst, ⊎_elim, append_assoc, append-nil, arith, take-append-drop}
-use Rattle.std.proofs.lemmas.List.{take_all, take_more, drop_more, drop_all}
+use Rattle.std.proofs.Common.{◌≡◌, ℕ, zero, suc, ◌+◌, ◌-◌, ◌<◌, ◌≤◌, Bool, true, false, List, [], ◌∷◌, ◌++◌, length, get_or, take, drop, sym, refl, ap, ◌∙◌, subst, ⊎_elim, append_assoc, append-nil, arith, length-drop, take-append-drop}
+use Rattle.std.specs.List.{between}
+use Rattle.std.proofs.lemmas.List.{take_all, take_more, drop_more, drop_all, take_rest, get_or-drop}
 use Rattle.std.proofs.lemmas.Bool.{cases_lt, cases_eq}
 use Rattle.text.specs.declared.kinds.Kind.{Kind}
 use Rattle.text.specs.declared.kinds.Kind.TheVariants.{Number}
@@ -166,14 +167,49 @@ module _ {all : List Slot} {line : Bytes} where
       let on = move i 45 m s.1 s.2 (head_minus_in e ts) (head_minus_out e ts) in
       (Number, subst (λ x. Left all line x (Next ((Number, e) ∷ ts))) (sym s.0) on, λ _ _. refl))
 
-pub sign_within : (line : Bytes) (i j : ℕ) (k : Kind) → i ≤ length line → SignEnd line i k j → (i ≤ j) × (j ≤ length line)
-sign_within line i j k h = ⊎_elim (λ s. let p = s.0 in (omega arith, omega arith)) (λ s. let p = s.0 in let q = s.1 in (omega arith, omega arith))
+-- the digits at the front of what is left of the line
+pub run_from : (line : Bytes) (at n : ℕ) → at ≤ length line → DigitRun (between at (length line) line) 0 n → DigitRun line at n
+run_from line at n h run =
+    let rest = take_rest line at in
+    let long = ap length rest ∙ length-drop at line in
+    let byte : (k : ℕ) → get_or (between at (length line) line) (0 + k) 0 ≡ get_or line (at + k) 0 =
+    λ k. let same : 0 + k ≡ k = omega arith in ap (λ (xs : Bytes). get_or xs (0 + k) 0) rest ∙ ap (λ i. get_or (drop at line) i 0) same ∙ get_or-drop at line k 0 in
+    let in-rest = run.within in
+    record {
+      within = omega arith;
+      short = run.short;
+      all = λ k lt. subst Digit (byte k) (run.all k lt);
+      stops = λ few on digit. run.stops few (omega arith) (subst Digit (sym (byte n)) digit);
+    }
+
+-- a blank, perhaps a sign, and the digits after it; l and m are the line as it is after each step
+module _ {all : List Slot} (line l m : Bytes) (at i from n : ℕ) (k : Kind) (e : Bool) (ts : List Slot) (fill : Fillable e ts) (gap : Gap all line at false ((k, e) ∷ ts)) (blank : (i ≡ at + 1) × (at < length line) × (get_or line at 0 ≡ 32)) (l-is : l ≡ line) (sign : SignEnd l i k from) (m-is : m ≡ l) (within : from ≤ length m) (digits : DigitRun (between from (length m) m) 0 n) where
+  run : DigitRun line from n
+  run = subst (λ x. DigitRun x from n) (m-is ∙ l-is) (run_from m from n within digits)
+
+  signed : (k' : Kind) × Left all line from (Next ((k', e) ∷ ts)) × (from < length line → get_or line from 0 ≡ 45 → k' ≡ Number)
+  signed = sign_on k e ts _ _ (gap_blank at false _ gap blank.1 blank.2) (subst (λ x. SignEnd line x k from) blank.0 (subst (λ x. SignEnd x i k from) l-is sign))
+
+  pub field_passed : 1 ≤ n → Gap all line (from + n) e ts
+  field_passed some = field_end signed.0 e ts from n fill signed.1 run some
+
+  pub field_stopped : n ≡ 0 → FaultAt (Laid all) line (from + 1)
+  field_stopped none = let w = run.within in field_fault signed.0 e ts from fill (omega arith) signed.1 (subst (DigitRun line from) none run) signed.2
 
 -- the first kind of what is left of a group
 pub gap_kind : {all : List Slot} {line : Bytes} (ks : List Kind) (i at : ℕ) (k : Kind) (ts : List Slot) → i < length ks → k ≡ get_or ks i k → Gap all line at (none (drop i ks)) (marked (drop i ks) ts) → Gap all line at false ((k, none (drop (i + 1) ks)) ∷ marked (drop (i + 1) ks) ts)
 gap_kind {all} {line} ks i at k ts h is gap =
     let front : drop i ks ≡ k ∷ drop (i + 1) ks = drop_more ks i k h ∙ ap (λ (x : Kind). x ∷ drop (i + 1) ks) (sym is) in
     subst (λ (l : List Kind). Gap all line at (none l) (marked l ts)) front gap
+
+-- what a field of a group answers, where l is the line as it is then
+pub group_more : (P : List Slot → Bytes → Bool → List Slot → Type 0) (all : List Slot) (line l : Bytes) (ks : List Kind) (i at : ℕ) (k : Kind) (ts : List Slot) → l ≡ line → i < length ks → k ≡ get_or ks i k
+    → ((e : Bool) (us : List Slot) → Fillable e us → (all : List Slot) → Gap all l at false ((k, e) ∷ us) → P all l e us)
+    → Gap all line at (none (drop i ks)) (marked (drop i ks) ts) → P all line (none (drop (i + 1) ks)) (marked (drop (i + 1) ks) ts)
+group_more P all line l ks i at k ts l-is h is answer gap =
+    let rest = drop (i + 1) ks in
+    let here = gap_kind ks i at k ts h is gap in
+    subst (λ x. P all x (none rest) (marked rest ts)) l-is (answer (none rest) (marked rest ts) (fill_marked rest ts) all (subst (λ x. Gap all x at false ((k, none rest) ∷ marked rest ts)) (sym l-is) here))
 
 pub gap_all : {all : List Slot} {line : Bytes} (ks : List Kind) (i at : ℕ) (ts : List Slot) → length ks ≤ i → Gap all line at (none (drop i ks)) (marked (drop i ks) ts) → Gap all line at true ts
 gap_all {all} {line} ks i at ts h gap = subst (λ (l : List Kind). Gap all line at (none l) (marked l ts)) (drop_all i ks h) gap
@@ -187,6 +223,14 @@ pub gap_group : {all : List Slot} {line : Bytes} (ks : List Kind) (n i at : ℕ)
 gap_group {all} {line} ks n i at some h gap =
     let p : n - i ≡ suc (n - (i + 1)) = omega arith in
     subst (λ e. Gap all line at e (marked ks (layout ks (n - (i + 1))))) (sym (none_false ks some)) (subst (λ m. Gap all line at false (layout ks m)) p gap)
+
+-- what a group answers, where l is the line as it is then
+pub layout_more : (P : List Slot → Bytes → List Slot → Type 0) (line l : Bytes) (ks : List Kind) (n i at : ℕ) → l ≡ line → 1 ≤ length ks → i < n
+    → ((ts all : List Slot) → Gap all l at (none ks) (marked ks ts) → P all l ts)
+    → Gap (layout ks n) line at false (layout ks (n - i)) → P (layout ks n) line (layout ks (n - (i + 1)))
+layout_more P line l ks n i at l-is some h answer gap =
+    let rest = layout ks (n - (i + 1)) in
+    subst (λ x. P (layout ks n) x rest) l-is (answer rest (layout ks n) (subst (λ x. Gap (layout ks n) x at (none ks) (marked ks rest)) (sym l-is) (gap_group ks n i at some h gap)))
 
 -- after the line's first byte
 pub gap_start : (line : Bytes) (ks : List Kind) (n : ℕ) → 1 ≤ length line → 1 ≤ length ks → 1 ≤ n → Gap (layout ks n) line 1 false (layout ks n)

@@ -14,11 +14,11 @@ pub cut_none : (sep : ℕ) → cut sep [] ≡ []
 unfolding cut
 cut_none sep = refl
 
-cut_other : (sep b : ℕ) (bs : Bytes) → (b ≡ sep → ⊥) → cut sep (b ∷ bs) ≡ onto_first b (cut sep bs)
+pub cut_other : (sep b : ℕ) (bs : Bytes) → (b ≡ sep → ⊥) → cut sep (b ∷ bs) ≡ onto_first b (cut sep bs)
 unfolding cut
 cut_other sep b bs other = cond-false (eqb b sep) ([] ∷ cut sep bs) (onto_first b (cut sep bs)) (ne_eqb b sep other)
 
-cut_here : (sep : ℕ) (bs : Bytes) → cut sep (sep ∷ bs) ≡ [] ∷ cut sep bs
+pub cut_here : (sep : ℕ) (bs : Bytes) → cut sep (sep ∷ bs) ≡ [] ∷ cut sep bs
 unfolding cut
 cut_here sep bs = cond-true (eqb sep sep) ([] ∷ cut sep bs) (onto_first sep (cut sep bs)) (eq-eqb sep sep refl)
 

@@ -1,26 +1,29 @@
 -- A number digit by digit. Assumes nothing.
-use Rattle.std.proofs.Common.{◌≡◌, ℕ, ◌+◌, ◌-◌, ◌*◌, ◌^◌, ◌<◌, ◌≤◌, [], ◌∷◌, ◌++◌, length, get_or, take, pos, ◌-ℤ◌, neg_ℤ, refl, ap, ◌∙◌, pow-suc, add-one, arith, w32, to_z, of_z}
+use Rattle.std.proofs.Common.{◌≡◌, ℕ, ◌+◌, ◌-◌, ◌*◌, ◌^◌, ◌<◌, ◌≤◌, [], ◌∷◌, length, get_or, suc, min, refl, ap, ◌∙◌, pow-suc, add-one, arith}
 use native.Mathlib.Nat.{pow-le-pow_right}
-use Rattle.std.proofs.lemmas.List.{take_more}
-use Rattle.std.proofs.lemmas.Int.{ints}
+use Rattle.std.specs.List.{fold}
 use Rattle.text.specs.Grammar.{Bytes}
-use Rattle.text.specs.Decimal.{decimal_after, decimal}
-
-after_append : (n : ℕ) (xs ys : Bytes) → decimal_after n (xs ++ ys) ≡ decimal_after (decimal_after n xs) ys
-after_append n [] ys = refl
-after_append n (x ∷ xs) ys = after_append (n * 10 + (x - 48)) xs ys
-
-pub decimal_more : (bs : Bytes) (i : ℕ) → i < length bs → decimal (take (i + 1) bs) ≡ decimal (take i bs) * 10 + (get_or bs i 0 - 48)
-decimal_more bs i h = ap decimal (take_more bs i 0 h) ∙ after_append 0 (take i bs) (get_or bs i 0 ∷ [])
+use Rattle.text.specs.Decimal.{decimal_after}
 
 -- a byte less 48 is at most 207, and 23 * 9 is 207
-pub digit_more : (s d i : ℕ) → s + 23 ≤ 23 * 10 ^ i → i < 7 → d ≤ 207 → (s * 10 + d + 23 ≤ 23 * 10 ^ (i + 1)) × (s * 10 + d < 2 ^ 31)
+digit_more : (s d i : ℕ) → s + 23 ≤ 23 * 10 ^ i → i < 7 → d ≤ 207 → (s * 10 + d + 23 ≤ 23 * 10 ^ (i + 1)) × (s * 10 + d < 2 ^ 31)
 digit_more s d i h l small =
     let up : 10 ^ (i + 1) ≡ 10 ^ i * 10 = ap (λ k. 10 ^ k) (add-one i) ∙ pow-suc 10 i in
     let top : 10 ^ (i + 1) ≤ 10 ^ 7 = let le : i + 1 ≤ 7 = omega arith in let some : 1 ≤ 10 = omega arith in pow-le-pow_right some le in
     (omega arith, omega arith)
 
-pub minus_value : (digits : Bytes) (v : ℕ) → v < 2 ^ 31 → (length digits ≤ 7 → v ≡ decimal digits) → length digits ≤ 7 → to_z w32 (of_z w32 (pos 0 -ℤ to_z w32 v)) ≡ neg_ℤ (pos (decimal digits))
-minus_value digits v small exact short =
-    let below : to_z w32 (of_z w32 (pos 0 -ℤ to_z w32 v)) ≡ neg_ℤ (pos v) = omega (arith, ints) in
-    below ∙ ap (λ n. neg_ℤ (pos n)) (exact short)
+-- the digits of bs after those that write n, up to a limit
+abbrev pub capped_after : ℕ → Bytes → ℕ
+capped_after n bs = fold (λ n b. min (n * 10 + (b - 48)) 2147483647) n bs
+
+pub capped_bound : (n : ℕ) (bs : Bytes) → n < 2 ^ 31 → capped_after n bs < 2 ^ 31
+capped_bound n [] h = h
+capped_bound n (b ∷ bs) h = capped_bound (min (n * 10 + (b - 48)) 2147483647) bs (omega arith)
+
+pub capped_exact : (n i : ℕ) (bs : Bytes) → ((k : ℕ) → get_or bs k 0 < 256) → i + length bs ≤ 7 → n + 23 ≤ 23 * 10 ^ i → capped_after n bs ≡ decimal_after n bs
+capped_exact n i [] fits short small = refl
+capped_exact n i (b ∷ bs) fits short small =
+    let byte : b < 256 = fits 0 in
+    let on = digit_more n (b - 48) i small (omega arith) (omega arith) in
+    let same : min (n * 10 + (b - 48)) 2147483647 ≡ n * 10 + (b - 48) = omega (arith, on.1) in
+    ap (λ m. capped_after m bs) same ∙ capped_exact (n * 10 + (b - 48)) (i + 1) bs (λ k. fits (suc k)) (omega arith) on.0

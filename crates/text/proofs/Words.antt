@@ -1,13 +1,12 @@
 -- The first of the fields that stand in a row. Assumes nothing.
 use Rattle.std.proofs.Common.{◌≡◌, ℕ, zero, suc, ◌+◌, ◌-◌, ◌<◌, ◌≤◌, List, [], ◌∷◌, ◌++◌, length, get_or, take, drop, sym, ap, ◌∙◌, subst, ⊎_elim, add-zero, arith, length-append, length-drop}
 use Rattle.std.specs.List.{between}
-use Rattle.std.proofs.lemmas.List.{get_or_append_left, get_or-append-add, take_at, drop_at, drop-drop, drop_all, take_rest}
+use Rattle.std.proofs.lemmas.List.{get_or_append_left, get_or-append-add, take_at, drop_at, drop-drop, take_rest}
 use Rattle.std.proofs.lemmas.Bool.{cases_lt}
 use Rattle.text.specs.declared.kinds.Kind.{Kind}
 use Rattle.text.specs.declared.kinds.Kind.TheVariants.{Number, Coefficient}
 use Rattle.text.specs.Grammar.{Bytes, Digits, Text, row}
 use Rattle.text.specs.Reading.{Unbroken}
-use Rattle.text.proofs.Steps.{not_nil}
 
 -- n is the place of the first blank of bs, or its end
 pub record FirstBlank (bs : Bytes) (n : ℕ) : Type 0 where
@@ -36,9 +35,6 @@ first_word line a n g gs stop here whole =
       ap (λ i. take i (drop (a + 1) line)) span ∙ ap (take n) rest ∙ take_at g (row gs) n (sym size),
       sym (drop-drop n (a + 1) line) ∙ ap (drop n) rest ∙ drop_at g (row gs) n (sym size),
     )
-
-pub no_word : (line : Bytes) (a : ℕ) (g : Bytes) (gs : List Bytes) → length line ≤ a → drop a line ≡ row (g ∷ gs) → ⊥
-no_word line a g gs h here = not_nil (sym here ∙ drop_all a line h)
 
 pub some_word : (line : Bytes) (a : ℕ) → a < length line → drop a line ≡ [] → ⊥
 some_word line a h empty = let e = ap length empty in let l = length-drop a line in omega arith

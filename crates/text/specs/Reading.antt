@@ -77,3 +77,9 @@ TakesFirst s r t =
 -- where nothing is left, none is taken
 abbrev pub TakesNone : Fields → Option Field → Type 0
 TakesNone s r = rest_of s ≡ [] → IfSome r (λ f. ⊥)
+
+-- one turn of the iterator
+pub record FieldStep (s : Fields) (r : Option Field) (t : Fields) : Type 0 where
+  pub takes : Takes s r t
+  pub first : TakesFirst s r t
+  pub none : TakesNone s r

@@ -1,5 +1,5 @@
 -- Where a scan of a line stands, for the contracts of the functions that scan. Assumes nothing.
-use Rattle.std.specs.Prelude.{◌≡◌, ℕ, zero, suc, ◌+◌, ◌<◌, ◌≤◌, Bool, true, false, ◌⊎◌, List, [], ◌∷◌, ◌++◌, length, take, Result, MatchResult, ◌≢◌, slice_index}
+use Rattle.std.specs.Prelude.{◌≡◌, ℕ, zero, suc, ◌+◌, ◌<◌, ◌≤◌, Bool, true, false, ◌⊎◌, List, [], ◌∷◌, ◌++◌, length, take, Result, MatchResult, MatchBool, ◌≢◌, slice_index}
 use Rattle.text.specs.declared.kinds.Kind.{Kind}
 use Rattle.text.specs.declared.kinds.Kind.TheVariants.{Number, Coefficient}
 use Rattle.text.specs.declared.line.Fault.{Fault}
@@ -58,10 +58,15 @@ pub record Gap (all : List Slot) (line : Bytes) (at : ℕ) (e : Bool) (ts : List
   pub end_in : at ≡ length line → Laid all line → e ≡ true
   pub end_out : at ≡ length line → e ≡ true → Laid all line
 
--- what a scan from one gap to the next answers
-abbrev pub Skips : Bytes → ℕ → Bool → List Slot → Bool → List Slot → Result ℕ Fault → Type 0
-Skips line at e ts e' ts' r =
-    (all : List Slot) → Gap all line at e ts → MatchResult r (λ end. Gap all line end e' ts') (λ f. FaultAt (Laid all) line f.column)
+-- what a scan from one gap to the next answers, and where it ends
+abbrev pub Skips : Bytes → ℕ → Bool → List Slot → Bool → List Slot → Result (Unit {0}) Fault → ℕ → Type 0
+Skips line at e ts e' ts' r end =
+    (all : List Slot) → Gap all line at e ts → MatchResult r (λ _. Gap all line end e' ts') (λ f. FaultAt (Laid all) line f.column)
+
+-- whether the byte stands there, and then the place after it
+abbrev pub ByteTaken : Bytes → ℕ → ℕ → Bool → ℕ → Type 0
+ByteTaken line at b r end =
+    MatchBool r ((end ≡ at + 1) × (at < length line) × (slice_index line at ≡ b)) ((end ≡ at) × (at < length line → slice_index line at ≢ b))
 
 -- the place after a minus, where one may stand and does
 abbrev pub SignEnd : Bytes → ℕ → Kind → ℕ → Type 0

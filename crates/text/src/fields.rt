@@ -1,23 +1,27 @@
 // Reading the fields of a line one by one, and their values.
-ghost use Rattle.std.specs.Prelude.{◌≡◌, ℕ, ◌^◌, ◌<◌, ◌≤◌, length, ◌≢◌, slice_index};
+ghost use Rattle.std.specs.Prelude.{◌≡◌, ◌-◌, ◌^◌, ◌<◌, ◌≤◌, length};
+ghost use Rattle.std.specs.Iterator.{at_most};
 ghost use Rattle.text.specs.Decimal.{decimal};
-ghost use Rattle.text.specs.Reading.{Spells, Stands, Takes, TakesFirst, TakesNone, digits_of, value_of};
+ghost use Rattle.text.specs.Reading.{FieldStep, Spells, Stands, digits_of, value_of};
 
 use super::line::{Field, Fields};
+use super::places::place_of;
 
-impl<'a> Fields<'a> {
+impl<'a> Iterator for Fields<'a> {
+    type Item = Field<'a>;
+
+    ghost next_gives = { FieldStep };
+
+    ghost remaining = { λ s. at_most (length s.bytes.now - s.at) };
+
     // The next field, which a blank or the line's end follows.
-    pub fn next(&mut self) -> Option<Field<'a>>
-        ensures takes { Takes self.old result self.new }
-        ensures first { TakesFirst self.old result self.new }
-        ensures none { TakesNone self.old result }
-    {
+    fn next(&mut self) -> Option<Field<'a>> {
         let bytes = self.bytes;
         if self.at >= bytes.len() {
             return None;
         }
         let start = self.at + 1;
-        let end = start + blank(&bytes[start..]);
+        let end = start + place_of(b' ', &bytes[start..]);
         self.at = end;
         Some(field_at(&bytes[start..end], self.line, start + 1))
     }
@@ -30,8 +34,7 @@ impl Field<'_> {
         ensures exact { length (digits_of self.now) ≤ 7 → result ≡ decimal (digits_of self.now) }
     {
         match self {
-            Field::Unsigned { digits, .. } => value(digits),
-            Field::Negative { digits, .. } => value(digits),
+            Field::Unsigned { digits, .. } | Field::Negative { digits, .. } => value(digits),
         }
     }
 
@@ -40,8 +43,8 @@ impl Field<'_> {
         ensures { length (digits_of self.now) ≤ 7 → result ≡ value_of self.now }
     {
         match self {
-            Field::Unsigned { digits, .. } => value(digits) as i32,
-            Field::Negative { digits, .. } => -(value(digits) as i32),
+            Field::Unsigned { .. } => self.number() as i32,
+            Field::Negative { .. } => -(self.number() as i32),
         }
     }
 }
@@ -65,34 +68,16 @@ fn field_at<'a>(text: &'a [u8], line: usize, column: usize) -> Field<'a>
     }
 }
 
-const MOST: u32 = 0x7fff_ffff;
+const MOST: u32 = i32::MAX as u32;
 
 // The number that at most seven digits write; of more digits it says nothing.
 fn value(digits: &[u8]) -> u32
     ensures bound { result < 2 ^ 31 }
     ensures exact { length digits.now ≤ 7 → result ≡ decimal digits.now }
 {
-    let mut sum: u32 = 0;
-    for b in digits {
-        let digit = b.saturating_sub(b'0');
-        sum = sum
-            .saturating_mul(10)
-            .saturating_add(u32::from(digit))
-            .min(MOST);
-    }
-    sum
-}
-
-// The place of the first blank, or the end.
-fn blank(text: &[u8]) -> usize
-    ensures within { result ≤ length text.now }
-    ensures before { (k : ℕ) → k < result → slice_index text.now k ≢ 32 }
-    ensures found { result < length text.now → slice_index text.now result ≡ 32 }
-{
-    for (i, b) in text.iter().enumerate() {
-        if *b == b' ' {
-            return i;
-        }
-    }
-    text.len()
+    digits.iter().fold(0u32, |sum, b| {
+        sum.saturating_mul(10)
+            .saturating_add(u32::from(b.saturating_sub(b'0')))
+            .min(MOST)
+    })
 }

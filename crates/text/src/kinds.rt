@@ -1,4 +1,5 @@
-// The kinds of the fields that follow a line's letter.
+// What follows the letter of a line.
+ghost use Rattle.std.specs.Prelude.{◌≤◌, length};
 
 // What a field holds: only a coefficient may have a minus in front.
 #[derive(Clone, Copy)]
@@ -7,26 +8,49 @@ pub enum Kind {
     Coefficient,
 }
 
+// One to `most` groups of fields of these kinds, of which a group has one at least.
+#[derive(Clone, Copy)]
+pub(crate) struct Shape {
+    pub(crate) kinds: &'static [Kind],
+    pub(crate) most: usize,
+    ghost some: { (1 ≤ length kinds.now) × (1 ≤ most) },
+}
+
 // The most terms of a law.
-pub(crate) const MOST_TERMS: usize = 8;
+pub const MOST_TERMS: usize = 8;
 
 // Of a node and of variables.
-pub(crate) const VALUE: [Kind; 1] = [Kind::Number];
+pub(crate) const VALUE: Shape = Shape {
+    kinds: &[Kind::Number],
+    most: 1,
+};
 
-pub(crate) const BRANCH: [Kind; 4] = [Kind::Number, Kind::Number, Kind::Number, Kind::Number];
+pub(crate) const BRANCH: Shape = Shape {
+    kinds: &[Kind::Number, Kind::Number, Kind::Number, Kind::Number],
+    most: 1,
+};
 
-pub(crate) const EARTH: [Kind; 3] = [Kind::Number, Kind::Number, Kind::Number];
+pub(crate) const EARTH: Shape = Shape {
+    kinds: &[Kind::Number, Kind::Number, Kind::Number],
+    most: 1,
+};
 
-// Of one term of a law.
-pub(crate) const TERM: [Kind; 3] = [Kind::Coefficient, Kind::Number, Kind::Number];
+// A law has a group for each term.
+pub(crate) const LAW: Shape = Shape {
+    kinds: &[Kind::Coefficient, Kind::Number, Kind::Number],
+    most: MOST_TERMS,
+};
 
-pub(crate) const REPEAT: [Kind; 8] = [
-    Kind::Number,
-    Kind::Coefficient,
-    Kind::Coefficient,
-    Kind::Coefficient,
-    Kind::Coefficient,
-    Kind::Number,
-    Kind::Number,
-    Kind::Number,
-];
+pub(crate) const REPEAT: Shape = Shape {
+    kinds: &[
+        Kind::Number,
+        Kind::Coefficient,
+        Kind::Coefficient,
+        Kind::Coefficient,
+        Kind::Coefficient,
+        Kind::Number,
+        Kind::Number,
+        Kind::Number,
+    ],
+    most: 1,
+};

@@ -6,11 +6,12 @@ mod fields;
 mod kinds;
 mod limit;
 mod line;
+mod places;
 mod read;
 mod scan;
 mod split;
 
-pub use kinds::Kind;
+pub use kinds::{Kind, MOST_TERMS};
 pub use limit::{MOST_BYTES, fits};
 pub use line::{Fault, Field, Fields, Line, TextLine};
 pub use read::read_line;

@@ -4,17 +4,17 @@ ghost use Rattle.text.specs.Grammar.{Allowed, form, groups};
 ghost use Rattle.text.specs.Faults.{FaultAt};
 ghost use Rattle.text.specs.Reading.{Led, Says};
 
-use super::kinds::{BRANCH, EARTH, Kind, MOST_TERMS, REPEAT, TERM, VALUE};
+use super::kinds::{BRANCH, EARTH, LAW, REPEAT, Shape, VALUE};
 use super::line::{Fault, Fields, Line, TextLine};
 use super::scan::scan;
 
-// The fields of a line that has one to `most` groups of these kinds after its letter.
-fn fields_of<'a>(line: TextLine<'a>, kinds: &[Kind], most: usize) -> Result<Fields<'a>, Fault>
-    requires some { (1 ≤ length line.bytes.now) × ((1 ≤ length kinds.now) × (1 ≤ most)) }
-    requires kind { form (slice_index line.bytes.now 0) ≡ groups kinds.now most }
+// The fields of a line that has this shape after its letter.
+fn fields_of<'a>(line: TextLine<'a>, shape: Shape) -> Result<Fields<'a>, Fault>
+    requires some { 1 ≤ length line.bytes.now }
+    requires form { form (slice_index line.bytes.now 0) ≡ groups shape.kinds.now shape.most }
     ensures { MatchResult result (λ fs. Allowed line.entry.bytes.now × Led (slice_index line.entry.bytes.now 0) line.entry fs) (λ f. FaultAt Allowed line.entry.bytes.now f.column) }
 {
-    scan(line.bytes, kinds, most)?;
+    scan(line.bytes, shape)?;
     Ok(Fields {
         bytes: line.bytes,
         line: line.number,
@@ -30,12 +30,12 @@ pub fn read_line<'a>(line: TextLine<'a>) -> Result<Line<'a>, Fault>
         return Ok(Line::Empty { line: line.number });
     };
     match *letter {
-        b'N' => Ok(Line::Node(fields_of(line, &VALUE, 1)?)),
-        b'V' => Ok(Line::Variables(fields_of(line, &VALUE, 1)?)),
-        b'B' => Ok(Line::Branch(fields_of(line, &BRANCH, 1)?)),
-        b'E' => Ok(Line::Earth(fields_of(line, &EARTH, 1)?)),
-        b'L' => Ok(Line::Law(fields_of(line, &TERM, MOST_TERMS)?)),
-        b'C' => Ok(Line::Repeat(fields_of(line, &REPEAT, 1)?)),
+        b'N' => Ok(Line::Node(fields_of(line, VALUE)?)),
+        b'V' => Ok(Line::Variables(fields_of(line, VALUE)?)),
+        b'B' => Ok(Line::Branch(fields_of(line, BRANCH)?)),
+        b'E' => Ok(Line::Earth(fields_of(line, EARTH)?)),
+        b'L' => Ok(Line::Law(fields_of(line, LAW)?)),
+        b'C' => Ok(Line::Repeat(fields_of(line, REPEAT)?)),
         b'#' => Ok(Line::Comment {
             text: rest,
             line: line.number,

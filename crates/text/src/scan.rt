@@ -1,85 +1,108 @@
 // Skipping the fields of a line, up to the place where it goes wrong.
-ghost use Rattle.std.specs.Prelude.{◌≡◌, ◌<◌, ◌≤◌, Bool, true, false, List, ◌∷◌, length, MatchResult, slice_index};
+ghost use Rattle.std.specs.Prelude.{◌≡◌, ◌+◌, ◌<◌, ◌≤◌, Bool, true, false, List, ◌∷◌, length, MatchResult, slice_index};
 ghost use Rattle.text.specs.Grammar.{Allowed, form, groups};
 ghost use Rattle.text.specs.Faults.{FaultAt};
-ghost use Rattle.text.specs.Scan.{Slot, marked, none, Fillable, Skips, SignEnd, DigitRun};
+ghost use Rattle.text.specs.Scan.{Slot, marked, none, Fillable, Skips, ByteTaken, SignEnd, DigitRun};
 
-use super::kinds::Kind;
+use super::kinds::{Kind, Shape};
 use super::line::Fault;
 
 const MOST_DIGITS: usize = 7;
 
-// How many digits stand at `from`, of which it counts at most seven.
-fn digits(line: &[u8], from: usize) -> usize
-    requires { from ≤ length line.now }
-    ensures { DigitRun line.now from result }
+// How many digits stand at the front, of which it counts at most seven.
+fn leading_digits(text: &[u8]) -> usize
+    ensures { DigitRun text.now 0 result }
 {
-    let mut count = 0;
-    while count < MOST_DIGITS && from + count < line.len() && line[from + count].is_ascii_digit() {
-        count += 1;
-    }
-    count
+    text.iter()
+        .take(MOST_DIGITS)
+        .take_while(|b| b.is_ascii_digit())
+        .count()
 }
 
-// The place after the minus at `at`, if one stands there and the kind has it.
-fn after_sign(line: &[u8], at: usize, kind: Kind) -> usize
-    requires { at ≤ length line.now }
-    ensures { SignEnd line.now at kind result }
-{
-    match kind {
-        Kind::Number => at,
-        Kind::Coefficient => {
-            if at < line.len() && line[at] == b'-' {
-                at + 1
-            } else {
-                at
+// A line, and the place that a scan of it has come to.
+#[derive(Drop)]
+struct Scanner<'a> {
+    line: &'a [u8],
+    at: usize,
+    ghost within: { at ≤ length line.now },
+}
+
+impl Scanner<'_> {
+    // That the line goes wrong here.
+    fn fault(&self) -> Fault
+        ensures { result.column ≡ self.now.at + 1 }
+    {
+        Fault {
+            column: self.at + 1,
+        }
+    }
+
+    // Takes the byte if it stands here, and answers whether it does.
+    fn take(&mut self, byte: u8) -> bool
+        ensures same { self.new.line.now ≡ self.old.line.now }
+        ensures taken { ByteTaken self.old.line.now self.old.at byte result self.new.at }
+    {
+        let stands = self.line.get(self.at) == Some(&byte);
+        if stands {
+            self.at += 1;
+        }
+        stands
+    }
+
+    // Takes a minus, where the kind may have one.
+    fn sign(&mut self, kind: Kind)
+        ensures same { self.new.line.now ≡ self.old.line.now }
+        ensures end { SignEnd self.old.line.now self.old.at kind self.new.at }
+    {
+        if matches!(kind, Kind::Coefficient) {
+            self.take(b'-');
+        }
+    }
+
+    // Takes a field of this kind, with the blank in front of it.
+    fn field(&mut self, kind: Kind) -> Result<(), Fault>
+        ensures same { self.new.line.now ≡ self.old.line.now }
+        ensures places { MatchResult result (λ _. self.old.at < self.new.at) (λ f. self.old.at < f.column) }
+        ensures skips { (e : Bool) (ts : List Slot) → Fillable e ts → Skips self.old.line.now self.old.at false ((kind, e) ∷ ts) e ts result self.new.at }
+    {
+        if !self.take(b' ') {
+            return Err(self.fault());
+        }
+        self.sign(kind);
+        match leading_digits(&self.line[self.at..]) {
+            0 => Err(self.fault()),
+            count => {
+                self.at += count;
+                Ok(())
             }
         }
     }
+
+    // Takes a group of fields of these kinds.
+    fn group(&mut self, kinds: &[Kind]) -> Result<(), Fault>
+        ensures same { self.new.line.now ≡ self.old.line.now }
+        ensures places { MatchResult result (λ _. self.old.at ≤ self.new.at) (λ f. self.old.at < f.column) }
+        ensures skips { (ts : List Slot) → Skips self.old.line.now self.old.at (none kinds.now) (marked kinds.now ts) true ts result self.new.at }
+    {
+        for kind in kinds {
+            self.field(*kind)?;
+        }
+        Ok(())
+    }
 }
 
-// The end of the field that has its blank at `at`.
-fn skip_field(line: &[u8], at: usize, kind: Kind) -> Result<usize, Fault>
-    requires { at ≤ length line.now }
-    ensures places { MatchResult result (λ end. (at < end) × (end ≤ length line.now)) (λ f. at < f.column) }
-    ensures skips { (e : Bool) (ts : List Slot) → Fillable e ts → Skips line.now at false ((kind, e) ∷ ts) e ts result }
-{
-    if at == line.len() || line[at] != b' ' {
-        return Err(Fault { column: at + 1 });
-    }
-    let from = after_sign(line, at + 1, kind);
-    let count = digits(line, from);
-    if count == 0 {
-        return Err(Fault { column: from + 1 });
-    }
-    Ok(from + count)
-}
-
-// The end of a group of fields of these kinds.
-fn skip_group(line: &[u8], start: usize, kinds: &[Kind]) -> Result<usize, Fault>
-    requires { start ≤ length line.now }
-    ensures places { MatchResult result (λ end. (start ≤ end) × (end ≤ length line.now)) (λ f. start < f.column) }
-    ensures skips { (ts : List Slot) → Skips line.now start (none kinds.now) (marked kinds.now ts) true ts result }
-{
-    let mut at = start;
-    for kind in kinds {
-        at = skip_field(line, at, *kind)?;
-    }
-    Ok(at)
-}
-
-// Whether the line has one to `most` groups of these kinds after its letter, or where it goes wrong.
-pub(crate) fn scan(line: &[u8], kinds: &[Kind], most: usize) -> Result<(), Fault>
-    requires some { (1 ≤ length line.now) × ((1 ≤ length kinds.now) × (1 ≤ most)) }
-    requires kind { form (slice_index line.now 0) ≡ groups kinds.now most }
+// Whether the line has this shape after its letter, or where it goes wrong.
+pub(crate) fn scan(line: &[u8], shape: Shape) -> Result<(), Fault>
+    requires some { 1 ≤ length line.now }
+    requires form { form (slice_index line.now 0) ≡ groups shape.kinds.now shape.most }
     ensures { MatchResult result (λ _. Allowed line.now) (λ f. FaultAt Allowed line.now f.column) }
 {
-    let mut at = 1;
-    for done in 0..most {
-        at = skip_group(line, at, kinds)?;
-        if at == line.len() {
+    let mut scanner = Scanner { line, at: 1 };
+    for _ in 0..shape.most {
+        scanner.group(shape.kinds)?;
+        if scanner.at == line.len() {
             return Ok(());
         }
     }
-    Err(Fault { column: at + 1 })
+    Err(scanner.fault())
 }

@@ -4,6 +4,7 @@ ghost use Rattle.text.specs.Newlines.{LineStep, LineCount};
 ghost use Rattle.std.specs.Iterator.{at_most};
 
 use super::line::TextLine;
+use super::places::place_of;
 
 // What is left of a text, and how many of its lines were taken.
 #[derive(Drop)]
@@ -36,14 +37,14 @@ impl<'a> Iterator for TextLines<'a> {
         if rest.is_empty() {
             return None;
         }
-        let end = newline(rest);
+        let end = place_of(b'\n', rest);
         let next = if end < rest.len() { end + 1 } else { end };
         let number = self.taken + 1;
         self.rest = &rest[next..];
         self.taken = number;
         Some(TextLine {
             number,
-            bytes: &rest[0..end],
+            bytes: &rest[..end],
         })
     }
 }
@@ -52,23 +53,5 @@ impl<'a> Iterator for TextLines<'a> {
 pub fn count_lines(text: &[u8]) -> usize
     ensures { LineCount text.now result }
 {
-    let mut last = 0;
-    for line in lines(text) {
-        last = line.number;
-    }
-    last
-}
-
-// The place of the first newline, or the end.
-fn newline(text: &[u8]) -> usize
-    ensures within { result ≤ length text.now }
-    ensures before { (k : ℕ) → k < result → slice_index text.now k ≢ 10 }
-    ensures found { result < length text.now → slice_index text.now result ≡ 10 }
-{
-    for (i, b) in text.iter().enumerate() {
-        if *b == b'\n' {
-            return i;
-        }
-    }
-    text.len()
+    lines(text).count()
 }

@@ -1,128 +1,127 @@
 use super::whole::{Place, first_fault};
-use commands::{Command, read_command};
+use commands::{Command, Terms, read_command};
 use netlist::terms::RawTerm;
 use std::alloc::{AllocError, Global};
 use std::test::Fail;
 use text::{TextLine, count_lines, fits};
 
-// The column where the line goes wrong, or 0.
-fn column(bytes: &[u8]) -> usize {
-    match read_command(TextLine { number: 1, bytes }) {
-        Ok(_) => 0,
-        Err(fault) => fault.column,
-    }
+// The column where the line goes wrong.
+fn column(bytes: &[u8]) -> Option<usize> {
+    read_command(TextLine { number: 1, bytes })
+        .err()
+        .map(|fault| fault.column)
 }
 
 // What the line commands, and nothing where it goes wrong.
 fn said(bytes: &[u8]) -> Option<Command> {
-    match read_command(TextLine { number: 1, bytes }) {
-        Ok(command) => Some(command),
-        Err(_) => None,
-    }
+    read_command(TextLine { number: 1, bytes }).ok()
 }
 
-// The first term of a law.
-fn first_term(bytes: &[u8]) -> Option<RawTerm> {
-    match said(bytes) {
-        Some(Command::Law(terms)) => terms.as_slice().first().copied(),
+// The terms of a law.
+fn law(bytes: &[u8]) -> Option<Terms> {
+    match said(bytes)? {
+        Command::Law(terms) => Some(terms),
         _ => None,
     }
 }
 
-fn term_count(bytes: &[u8]) -> usize {
-    match said(bytes) {
-        Some(Command::Law(terms)) => terms.as_slice().len(),
-        _ => 0,
-    }
+fn first_term(bytes: &[u8]) -> Option<RawTerm> {
+    let terms = law(bytes)?;
+    terms.as_slice().first().copied()
 }
 
-// A line, and the column where it goes wrong; 0 where it is allowed.
+fn term_count(bytes: &[u8]) -> Option<usize> {
+    let terms = law(bytes)?;
+    Some(terms.as_slice().len())
+}
+
+// A line, and the column where it goes wrong, if it does.
 struct Fault {
     line: &'static [u8],
-    column: usize,
+    column: Option<usize>,
 }
 
 const FAULTS: [Fault; 20] = [
     Fault {
         line: b"B 0 1 0",
-        column: 8,
+        column: Some(8),
     },
     Fault {
         line: b"N 1x",
-        column: 4,
+        column: Some(4),
     },
     Fault {
         line: b"N  1",
-        column: 3,
+        column: Some(3),
     },
     Fault {
         line: b"N 12345678",
-        column: 10,
+        column: Some(10),
     },
     Fault {
         line: b"X",
-        column: 1,
+        column: Some(1),
     },
     Fault {
         line: b"L 1 0 3 ",
-        column: 9,
+        column: Some(9),
     },
     Fault {
         line: b"L 5 -1 0",
-        column: 5,
+        column: Some(5),
     },
     Fault {
         line: b"N",
-        column: 2,
+        column: Some(2),
     },
     Fault {
         line: b"N -1",
-        column: 3,
+        column: Some(3),
     },
     Fault {
         line: b"L - 0 1",
-        column: 4,
+        column: Some(4),
     },
     Fault {
         line: b"N 1\r",
-        column: 4,
+        column: Some(4),
     },
     Fault {
         line: b" N 1",
-        column: 1,
+        column: Some(1),
     },
     Fault {
         line: b"n 1",
-        column: 1,
+        column: Some(1),
     },
     // Bytes past ASCII are free in a comment, and nowhere else.
     Fault {
         line: b"# na\xc3\xafve \xff\x00",
-        column: 0,
+        column: None,
     },
     Fault {
         line: b"#",
-        column: 0,
+        column: None,
     },
     Fault {
         line: b"",
-        column: 0,
+        column: None,
     },
     Fault {
         line: b"N \xb2",
-        column: 3,
+        column: Some(3),
     },
     Fault {
         line: b"N 1\xff",
-        column: 4,
+        column: Some(4),
     },
     Fault {
         line: b"\xffN 1",
-        column: 1,
+        column: Some(1),
     },
     Fault {
         line: b"B 0 1\xa00 1",
-        column: 6,
+        column: Some(6),
     },
 ];
 
@@ -214,14 +213,14 @@ fn laws(rt: HostRuntime) {
             variable: 4,
         })
     );
-    assert_eq!(rt; term_count(b"L 1 0 1 2 0 2"), 2);
+    assert_eq!(rt; term_count(b"L 1 0 1 2 0 2"), Some(2));
     assert_eq!(rt;
         term_count(b"L 1 0 1 2 0 2 3 0 3 4 0 4 5 0 5 6 0 6 7 0 7 8 0 8"),
-        8
+        Some(8)
     );
     assert_eq!(rt;
         column(b"L 1 0 1 2 0 2 3 0 3 4 0 4 5 0 5 6 0 6 7 0 7 8 0 8 9 0 9"),
-        50
+        Some(50)
     );
 }
 

@@ -1,7 +1,10 @@
-use Rattle.std.proofs.Common.{◌-◌, ◌≤◌, false, length}
+use Rattle.std.proofs.Common.{◌≡◌, ◌-◌, ◌≤◌, false}
 use Rattle.text.specs.Scan.{layout, Gap}
 use Rattle.text.proofs.scan.scan.Given as goal
 
-abbrev pub invariant-loop-done : goal.invariant-loop-done
-invariant-loop-done l =
-    (1 ≤ l.at) × (l.at ≤ length l.line) × Gap (layout l.kinds l.most) l.line l.at false (layout l.kinds (l.most - l.done))
+abbrev pub invariant-loop : goal.invariant-loop
+invariant-loop l = record {
+  same : l.scanner.line.now ≡ l.line;
+  on : 1 ≤ l.scanner.at;
+  gap : Gap (layout l.shape.kinds.now l.shape.most) l.line l.scanner.at false (layout l.shape.kinds.now (l.shape.most - l.counter));
+}

@@ -18,9 +18,9 @@ returns-then-is_empty c =
 pub returns : goal.returns
 returns c =
     let text = c.args.self.now.rest.now in
-    let told = c.newline-end.ensures in
+    let told = c.place_of-end.ensures in
     let some = false-eqb _ 0 c.if-is_empty.ensures in
-    let past : Past text c.newline-end.result c.if-end-rest.next =
+    let past : Past text c.place_of-end.result c.if-end-rest.next =
     elim c.if-end-rest.branch [ then-end-rest w ↦ inl (w.if-end-rest.true, w.next-is) | else-end-rest w ↦ inr (w.if-end-rest.false, w.next-is) ] in
     let first = first_line text _ _ (omega arith) told.within told.before told.found past in
     record {
