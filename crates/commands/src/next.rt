@@ -5,20 +5,21 @@ ghost use Rattle.commands.specs.Steps.{ReadsNumber, ReadsCoefficient, ReadsTerm,
 use netlist::terms::RawTerm;
 use text::Fields;
 
-// The next field's number; 0 where no field is left.
+// The next field's number; 0 where no field is left, as only in a line that `read_line` did not give.
 pub(crate) fn next_number(fields: &mut Fields<'_>) -> u32
     ensures { ReadsNumber (rest_of fields.old) result (rest_of fields.new) }
 {
     fields.next().map_or(0, |field| field.number())
 }
 
+// The same as a size: a `usize` has no `From<u32>`.
 pub(crate) fn next_size(fields: &mut Fields<'_>) -> usize
     ensures { ReadsNumber (rest_of fields.old) result (rest_of fields.new) }
 {
     next_number(fields) as usize
 }
 
-// The next field's coefficient; 0 where no field is left.
+// The next field's coefficient; 0 likewise where no field is left.
 pub(crate) fn next_coefficient(fields: &mut Fields<'_>) -> i64
     ensures { ReadsCoefficient (rest_of fields.old) result (rest_of fields.new) }
 {
