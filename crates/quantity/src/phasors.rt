@@ -52,8 +52,6 @@ impl Quantity for Phasor {
     }
 
     fn equals(self, other: Phasor) -> bool {
-        let real = self.real.equals(other.real);
-        let imaginary = self.imaginary.equals(other.imaginary);
-        real & imaginary
+        self == other
     }
 }

@@ -10,11 +10,9 @@ pub fn total<K: Quantity>(quantities: &[K]) -> K
     ensures value { result ≡ total K.group quantities.now }
     ensures totals { Totals K.group }
 {
-    let mut sum = K::zero();
-    for quantity in quantities {
-        sum = sum.sum(*quantity);
-    }
-    sum
+    quantities
+        .iter()
+        .fold(K::zero(), |sum, quantity| sum.sum(*quantity))
 }
 
 // The sum of the multiples of all, by a single multiple.

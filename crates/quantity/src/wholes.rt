@@ -47,6 +47,6 @@ impl Quantity for Whole {
     }
 
     fn equals(self, other: Whole) -> bool {
-        self.value == other.value
+        self == other
     }
 }

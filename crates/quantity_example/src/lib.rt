@@ -40,6 +40,6 @@ impl Quantity for Switch {
     }
 
     fn equals(self, other: Switch) -> bool {
-        self.turned == other.turned
+        self == other
     }
 }
