@@ -7,25 +7,25 @@ use equation::listing::{equations, size};
 use netlist::spans::Span;
 use netlist::terms::{RawTerm, Term};
 use sheet::{Draft, Sheet};
-use std::alloc::{AllocError, Global};
+use std::alloc::Global;
 use std::time::Instant;
 
 // As in `rigcobase`: a crate for one number would be no plainer.
 const LINE_BYTES: usize = 16_384;
 
 // 1,000 nodes in one domain, 4,000 variables, 1,500 branches and 1,500 laws of four terms.
-fn largest(heap: Global) -> Result<Sheet, AllocError> {
+fn largest(heap: Global) -> anyhow::Result<Sheet> {
     let mut draft = Draft::new(heap)?;
     for _ in 0..1000 {
-        let _ = draft.node(1);
+        draft.node(1)?;
     }
-    let _ = draft.variables(4000);
+    draft.variables(4000)?;
     for k in 0..1500 {
-        let _ = draft.branch(2 * k, 2 * k + 1, k % 1000, (k + 7) % 1000);
+        draft.branch(2 * k, 2 * k + 1, k % 1000, (k + 7) % 1000)?;
     }
     for k in 0..1500 {
         let term = RawTerm::rate(-1_000_000, 2 * k);
-        let _ = draft.law(&[term; 4]);
+        draft.law(&[term?; 4]);
     }
     Ok(draft.issue())
 }
@@ -52,7 +52,7 @@ fn list(rt: &HostRuntime, sheet: &Sheet) -> anyhow::Result<()> {
     Ok(())
 }
 
-// How many bytes all lines take.
+// How many bytes all lines take. A `try_fold` would be no plainer: each line is printed as well as counted.
 fn print(rt: &HostRuntime, sheet: &Sheet) -> anyhow::Result<()> {
     let mut buffer = vec![in rt.alloc(); 0u8; LINE_BYTES]?;
     let count = size(sheet).equations;

@@ -30,7 +30,8 @@ impl<A: Assembly, B: Assembly> SideBySide<A, B> {
             && same_domain(self.one.domain(1), self.other.domain(1))
     }
 
-    // What the parts and the layer have, or `None` where the layer is void.
+    // What the parts and the layer have, or `None` where the layer is void. Which ends meet, and how many
+    // joints there are, is where layers of two differ, so each has this and the next of its own.
     fn halves(&self) -> Option<Halves>
         ensures { Tells meet in_parallel (A.Assembly.meaning self.now.one) (B.Assembly.meaning self.now.other) result }
     {
@@ -61,6 +62,8 @@ impl<A: Assembly, B: Assembly> SideBySide<A, B> {
 impl<A: Assembly, B: Assembly> Assembly for SideBySide<A, B> {
     ghost meaning = { λ s. beside (A.Assembly.meaning s.one) (B.Assembly.meaning s.other) };
 
+    // These hand on what `Pair` does, one line each, which no trait could take over: an impl of `Assembly` for
+    // every layer of two could stand in `assembly` alone.
     fn size(&self) -> Option<Size> {
         Some(self.halves()?.whole)
     }

@@ -1,4 +1,4 @@
-// What a line commands, before it is judged.
+// What a line commands, before it is judged. A domain is any number, which a draft may refuse.
 use super::terms::Terms;
 
 #[derive(Clone, Copy, PartialEq, Eq, Debug)]

@@ -1,8 +1,7 @@
 // The terms of one law.
-ghost use Rattle.std.specs.Prelude.{◌≡◌, ◌+◌, ◌<◌, ◌≤◌, take, slice_set};
+ghost use Rattle.std.specs.Prelude.{◌≡◌, ◌+◌, ◌<◌, take, slice_set};
 
-use netlist::terms::RawTerm;
-use text::MOST_TERMS;
+use netlist::terms::{MOST_TERMS, RawTerm};
 
 // The first `count` of the slots are the law's terms. An `ArrayVec` would not be `Copy`, as a command is.
 #[derive(Clone, Copy, PartialEq, Eq, Debug)]
@@ -12,17 +11,17 @@ pub struct Terms {
 }
 
 impl Terms {
-    // Adds a term, where a slot is free.
+    // Adds a term in the next slot.
     pub(crate) fn push(&mut self, term: RawTerm)
-        ensures room { self.old.count < 8 → (self.new.slots ≡ slice_set self.old.slots self.old.count term) × (self.new.count ≡ self.old.count + 1) }
-        ensures full { 8 ≤ self.old.count → self.new ≡ self.old }
+        requires { self.old.count < 8 }
+        ensures slots { self.new.slots ≡ slice_set self.old.slots self.old.count term }
+        ensures count { self.new.count ≡ self.old.count + 1 }
     {
-        if self.count < MOST_TERMS {
-            self.slots[self.count] = term;
-            self.count += 1;
-        }
+        self.slots[self.count] = term;
+        self.count += 1;
     }
 
+    // The law's terms.
     pub fn as_slice(&self) -> &[RawTerm]
         ensures { result.now ≡ take self.now.count self.now.slots }
     {

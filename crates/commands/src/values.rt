@@ -7,8 +7,8 @@ ghost use Rattle.commands.specs.Steps.{Reads, ReadsLaw, node_kinds, branch_kinds
 use super::command::Command;
 use super::next::{next_coefficient, next_number, next_size, next_term};
 use super::terms::Terms;
-use netlist::terms::RawTerm;
-use text::{Fields, MOST_TERMS};
+use netlist::terms::{MOST_TERMS, RawTerm};
+use text::Fields;
 
 pub(crate) fn node(mut fields: Fields<'_>) -> Command
     ensures { Reads 78 node_kinds (rest_of fields.entry) result }

@@ -11,17 +11,15 @@ use crate::rows::RowEquation;
 use netlist::refusals::Refusal;
 use netlist::terms::Term;
 use sheet::Sheet;
+use sheet::drafts::MAX_ROWS;
 use spelling::lines::write_line;
-
-// Each row adds at most one term to a node, and a sheet has at most 1,500 rows.
-const MAX_NODE_TERMS: usize = 1500;
 
 // Prints the sum of the flows at a node.
 fn node_line(sheet: &Sheet, node: usize, buffer: &mut [u8]) -> Result<usize, Refusal>
     ensures { let netlist = netlist_of_sheet sheet.now in Printed buffer.old (line_text netlist.variables (node_sum netlist.rows node)) result buffer.new }
 {
     // An array and a count: no memory is taken once a draft is made, and `put_node` fills a slice.
-    let mut terms = [Term::value(1, 0); MAX_NODE_TERMS];
+    let mut terms = [Term::value(1, 0); MAX_ROWS];
     let count = put_node(sheet.rows(), node, &mut terms);
     write_line(&terms[..count], sheet.variables(), buffer)
 }

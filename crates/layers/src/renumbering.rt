@@ -6,7 +6,8 @@ ghost use Rattle.layers.specs.Renumbered.{absent, moved_node, moved_variable, mo
 
 use assembly::plans::{PlanRow, PlanTerm};
 
-// What a part lacks gets this number, which no layer has a node or variable of.
+// What a part lacks gets this number, which no layer has a node or variable of. It is a number and no
+// `None`, since a row names its nodes and variables by numbers.
 const ABSENT: u32 = 10000;
 
 // A layer has at most 6,000 inner nodes and variables, so that sixteen bits hold their numbers.

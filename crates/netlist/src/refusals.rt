@@ -106,15 +106,12 @@ impl Refusal {
     {
         match self {
             Refusal::Limit { table } => usize::from(table),
-            Refusal::NoNode { argument } => usize::from(argument),
-            Refusal::NoVariable { argument } => usize::from(argument),
-            Refusal::Domain { argument } => usize::from(argument),
-            Refusal::Taken { argument } => usize::from(argument),
-            Refusal::Coefficient { term } => term,
-            Refusal::TermCount => 0,
-            Refusal::Order { term } => term,
-            Refusal::ShortBuffer => 0,
-            Refusal::NoEquation => 0,
+            Refusal::NoNode { argument }
+            | Refusal::NoVariable { argument }
+            | Refusal::Domain { argument }
+            | Refusal::Taken { argument } => usize::from(argument),
+            Refusal::Coefficient { term } | Refusal::Order { term } => term,
+            Refusal::TermCount | Refusal::ShortBuffer | Refusal::NoEquation => 0,
         }
     }
 

@@ -25,8 +25,7 @@ impl<N: Copy> Row<N> {
         ensures { result ≡ flow_of self }
     {
         match self {
-            Row::Branch { flow, .. } => flow,
-            Row::Earth { flow, .. } => flow,
+            Row::Branch { flow, .. } | Row::Earth { flow, .. } => flow,
         }
     }
 
@@ -34,8 +33,7 @@ impl<N: Copy> Row<N> {
         ensures { result ≡ across_of self }
     {
         match self {
-            Row::Branch { across, .. } => across,
-            Row::Earth { across, .. } => across,
+            Row::Branch { across, .. } | Row::Earth { across, .. } => across,
         }
     }
 }

@@ -4,6 +4,7 @@ ghost use Rattle.netlist.specs.Sound.{is_domain, is_term_count};
 ghost use Rattle.parts.specs.Numbers.{domain_of};
 
 use netlist::domains::Domain;
+use netlist::terms::MOST_TERMS;
 
 // The domain of this number, if there is one.
 pub fn domain_of(number: u32) -> Option<Domain>
@@ -23,5 +24,5 @@ pub fn is_domain(number: u32) -> bool
 pub fn is_term_count(n: usize) -> bool
     ensures { result ≡ is_term_count n }
 {
-    (1..=8).contains(&n)
+    (1..=MOST_TERMS).contains(&n)
 }

@@ -34,7 +34,8 @@ fn begins(at: usize, part: Span) -> bool
     part.offset == at && is_term_count(part.length)
 }
 
-// Whether the parts fill a table of `terms` terms, one after another.
+// Whether the parts fill a table of `terms` terms, one after another. A `try_fold` would be no plainer, with a
+// step that fails and a sum in one closure.
 fn fills(parts: &[Span], terms: usize) -> bool
     requires { length parts.now ≤ 6000 }
     ensures { result ≡ fill 0 parts.now terms }

@@ -12,6 +12,7 @@ use std::alloc::Global;
 use std::io::Write;
 
 // No line is longer: the sum at a node has at most 1,500 terms, each of at most 8 bytes with its blank.
+// `benchmark` has the same number, for which a crate of its own would be no plainer.
 const LINE_BYTES: usize = 16_384;
 
 fn drawn(heap: Global) -> anyhow::Result<Sheet> {
@@ -20,7 +21,8 @@ fn drawn(heap: Global) -> anyhow::Result<Sheet> {
     Ok(draft.issue())
 }
 
-// Writes what was printed into the buffer.
+// Writes what was printed into the buffer. `trials` has the same four lines, for which a crate of their own
+// would be no plainer.
 fn show(rt: &HostRuntime, buffer: &[u8], end: usize) -> anyhow::Result<()> {
     let text = buffer.get(..end).context("a line past its buffer")?;
     rt.stdout().write_all(text)?;

@@ -30,7 +30,8 @@ fn joint(parts: Halves) -> u16
 }
 
 impl<A: Assembly, B: Assembly> Series<A, B> {
-    // What the parts and the layer have, or `None` where the layer is void.
+    // What the parts and the layer have, or `None` where the layer is void. Which ends meet, and how many
+    // joints there are, is where layers of two differ, so each has this and the next of its own.
     fn halves(&self) -> Option<Halves>
         ensures { Tells meet in_series (A.Assembly.meaning self.now.first) (B.Assembly.meaning self.now.second) result }
     {
@@ -62,6 +63,8 @@ impl<A: Assembly, B: Assembly> Series<A, B> {
 impl<A: Assembly, B: Assembly> Assembly for Series<A, B> {
     ghost meaning = { λ s. series (A.Assembly.meaning s.first) (B.Assembly.meaning s.second) };
 
+    // These hand on what `Pair` does, one line each, which no trait could take over: an impl of `Assembly` for
+    // every layer of two could stand in `assembly` alone.
     fn size(&self) -> Option<Size> {
         Some(self.halves()?.whole)
     }

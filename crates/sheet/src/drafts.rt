@@ -19,7 +19,7 @@ const MAX_NODES: usize = 1000;
 
 const MAX_VARIABLES: usize = 4000;
 
-const MAX_ROWS: usize = 1500;
+pub const MAX_ROWS: usize = 1500;
 
 // Each table has room for all that the limits allow, so no call runs out of memory. `taken` has a flag
 // for each variable, up where a row has it. A draft moves: it is neither copied nor cloned.

@@ -16,8 +16,8 @@ pub(crate) struct Shape {
     ghost some: { (1 ≤ length kinds.now) × (1 ≤ most) },
 }
 
-// The most terms of a law.
-pub const MOST_TERMS: usize = 8;
+// The most terms of a law. `netlist` says it for what is drawn; this crate rests on no other.
+const MOST_TERMS: usize = 8;
 
 // Of a node and of variables.
 pub(crate) const VALUE: Shape = Shape {

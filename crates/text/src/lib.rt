@@ -11,7 +11,7 @@ mod read;
 mod scan;
 mod split;
 
-pub use kinds::{Kind, MOST_TERMS};
+pub use kinds::Kind;
 pub use limit::{MOST_BYTES, fits};
 pub use line::{Fault, Field, Fields, Line, TextLine};
 pub use read::read_line;

@@ -9,7 +9,7 @@ use super::line::Fault;
 
 const MOST_DIGITS: usize = 7;
 
-// How many digits stand at the front, of which it counts at most seven.
+// How many digits stand at the front, up to seven.
 fn leading_digits(text: &[u8]) -> usize
     ensures { DigitRun text.now 0 result }
 {

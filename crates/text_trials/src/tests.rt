@@ -199,20 +199,9 @@ fn readings(rt: HostRuntime) {
 fn laws(rt: HostRuntime) {
     assert_eq!(rt;
         first_term(b"L -012 1 7 1 0 0"),
-        Some(RawTerm {
-            coefficient: -12,
-            order: 1,
-            variable: 7,
-        })
+        Some(RawTerm::rate(-12, 7))
     );
-    assert_eq!(rt;
-        first_term(b"L -0 0 4"),
-        Some(RawTerm {
-            coefficient: 0,
-            order: 0,
-            variable: 4,
-        })
-    );
+    assert_eq!(rt; first_term(b"L -0 0 4"), Some(RawTerm::value(0, 4)));
     assert_eq!(rt; term_count(b"L 1 0 1 2 0 2"), Some(2));
     assert_eq!(rt;
         term_count(b"L 1 0 1 2 0 2 3 0 3 4 0 4 5 0 5 6 0 6 7 0 7 8 0 8"),

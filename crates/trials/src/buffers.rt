@@ -21,9 +21,9 @@ const OLD_SPAN: Span = Span {
 // An earth at one node: three terms in two equations.
 fn earthed(rt: &HostRuntime) -> anyhow::Result<Sheet> {
     let mut draft = Draft::new(rt.alloc())?;
-    let _ = draft.node(1);
-    let _ = draft.variables(2);
-    let _ = draft.earth(0, 1, 0);
+    draft.node(1)?;
+    draft.variables(2)?;
+    draft.earth(0, 1, 0)?;
     Ok(draft.issue())
 }
 

@@ -12,7 +12,7 @@ const TERM: RawTerm = RawTerm {
 fn nodes(rt: &HostRuntime) -> anyhow::Result<()> {
     let mut draft = Draft::new(rt.alloc())?;
     for _ in 0..999 {
-        let _ = draft.node(1);
+        draft.node(1)?;
     }
     tell(rt, "the 1,000th node", draft.node(1))?;
     tell(rt, "one more", draft.node(1))?;
@@ -31,7 +31,7 @@ fn rows(rt: &HostRuntime) -> anyhow::Result<()> {
     tell(rt, "node 3", draft.node(3))?;
     tell(rt, "4,000 variables", draft.variables(4000))?;
     for k in 0..1499 {
-        let _ = draft.earth(2 * k, 2 * k + 1, 0);
+        draft.earth(2 * k, 2 * k + 1, 0)?;
     }
     tell(rt, "the 1,500th row", draft.branch(2998, 2999, 0, 0))?;
     tell(rt, "one more", draft.branch(3000, 3001, 0, 0))?;
@@ -42,7 +42,7 @@ fn laws(rt: &HostRuntime) -> anyhow::Result<()> {
     let mut draft = Draft::new(rt.alloc())?;
     tell(rt, "4,000 variables", draft.variables(4000))?;
     for _ in 0..1499 {
-        let _ = draft.law(&[TERM; 4]);
+        draft.law(&[TERM?; 4]);
     }
     tell(rt, "the 1,500th law", draft.law(&[TERM; 4]))?;
     // Both tables are full, and the laws come first.
@@ -53,7 +53,7 @@ fn law_terms(rt: &HostRuntime) -> anyhow::Result<()> {
     let mut draft = Draft::new(rt.alloc())?;
     tell(rt, "4,000 variables", draft.variables(4000))?;
     for _ in 0..749 {
-        let _ = draft.law(&[TERM; 8]);
+        draft.law(&[TERM?; 8]);
     }
     tell(rt, "a law to 5,995 terms", draft.law(&[TERM; 3]))?;
     tell(rt, "six terms more", draft.law(&[TERM; 6]))?;

@@ -29,13 +29,13 @@ fn print(rt: &HostRuntime, sheet: &Sheet, buffer: &mut [u8]) -> anyhow::Result<(
 // A resistance from node 0 to node 1, which is earthed.
 fn resistance(rt: &HostRuntime) -> anyhow::Result<()> {
     let mut draft = Draft::new(rt.alloc())?;
-    let _ = draft.node(1);
-    let _ = draft.node(1);
-    let _ = draft.variables(4);
-    let _ = draft.branch(0, 1, 0, 1);
-    let _ = draft.earth(2, 3, 1);
-    let _ = draft.law(&[RawTerm::value(200, 0), RawTerm::value(-1, 1)]);
-    let _ = draft.law(&[RawTerm::value(1, 3)]);
+    draft.node(1)?;
+    draft.node(1)?;
+    draft.variables(4)?;
+    draft.branch(0, 1, 0, 1)?;
+    draft.earth(2, 3, 1)?;
+    draft.law(&[RawTerm::value(200, 0), RawTerm::value(-1, 1)])?;
+    draft.law(&[RawTerm::value(1, 3)])?;
     print(rt, &draft.issue(), &mut [0; 64])
 }
 
@@ -47,15 +47,15 @@ fn empty(rt: &HostRuntime) -> anyhow::Result<()> {
 // A node without rows, a branch from a node to itself, rates, and the largest coefficients.
 fn edges(rt: &HostRuntime) -> anyhow::Result<()> {
     let mut draft = Draft::new(rt.alloc())?;
-    let _ = draft.node(4);
-    let _ = draft.node(2);
-    let _ = draft.variables(2);
-    let _ = draft.branch(1, 0, 1, 1);
-    let _ = draft.law(&[
+    draft.node(4)?;
+    draft.node(2)?;
+    draft.variables(2)?;
+    draft.branch(1, 0, 1, 1)?;
+    draft.law(&[
         RawTerm::rate(-1_000_000, 1),
         RawTerm::value(1_000_000, 0),
         RawTerm::rate(7, 0),
-    ]);
+    ])?;
     print(rt, &draft.issue(), &mut [0; 64])
 }
 

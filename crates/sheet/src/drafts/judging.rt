@@ -8,9 +8,9 @@ use crate::drafts::{Draft, MAX_ROWS};
 use netlist::domains::Domain;
 use netlist::refusals::{Argument, Refusal, Table};
 use netlist::rows::Row;
-use netlist::terms::{Order, RawTerm, Term};
+use netlist::terms::{MOST_TERMS, Order, RawTerm, Term};
 
-const MAX_LENGTH: usize = 8;
+const MAX_LENGTH: usize = MOST_TERMS;
 
 const MAX_COEFFICIENT: u64 = 1_000_000;
 

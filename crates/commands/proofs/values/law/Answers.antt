@@ -6,8 +6,8 @@ pub loop-preserved : goal.loop-preserved
 loop-preserved c =
     let was = c.loop.invariant in
     let told = c.in-Some.ensures in
-    let pushed = c.push.ensures.room (omega arith) in
-    (omega (arith, pushed.1), filled_more _ c.loop.terms c.push.new.self _ c.in-Some.term _ (omega arith) pushed told.term told.none was.1)
+    let pushed = c.push.ensures in
+    (omega (arith, pushed.count), filled_more _ c.loop.terms c.push.new.self _ c.in-Some.term _ (omega arith) (pushed.slots, pushed.count) told.term told.none was.1)
 
 pub returns-in_default : goal.returns-in_default
 returns-in_default c = filled_end _ _ _ c.loop.invariant.1 c.in_default.ensures.term
