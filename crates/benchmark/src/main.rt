@@ -25,7 +25,7 @@ fn largest(heap: Global) -> anyhow::Result<Sheet> {
     }
     for k in 0..1500 {
         let term = RawTerm::rate(-1_000_000, 2 * k);
-        draft.law(&[term?; 4]);
+        draft.law(&[term; 4])?;
     }
     Ok(draft.issue())
 }

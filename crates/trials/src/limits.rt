@@ -42,7 +42,7 @@ fn laws(rt: &HostRuntime) -> anyhow::Result<()> {
     let mut draft = Draft::new(rt.alloc())?;
     tell(rt, "4,000 variables", draft.variables(4000))?;
     for _ in 0..1499 {
-        draft.law(&[TERM?; 4]);
+        draft.law(&[TERM; 4])?;
     }
     tell(rt, "the 1,500th law", draft.law(&[TERM; 4]))?;
     // Both tables are full, and the laws come first.
@@ -53,7 +53,7 @@ fn law_terms(rt: &HostRuntime) -> anyhow::Result<()> {
     let mut draft = Draft::new(rt.alloc())?;
     tell(rt, "4,000 variables", draft.variables(4000))?;
     for _ in 0..749 {
-        draft.law(&[TERM?; 8]);
+        draft.law(&[TERM; 8])?;
     }
     tell(rt, "a law to 5,995 terms", draft.law(&[TERM; 3]))?;
     tell(rt, "six terms more", draft.law(&[TERM; 6]))?;
