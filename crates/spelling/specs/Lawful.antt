@@ -1,10 +1,23 @@
--- That a cursor keeps the laws of a sink, as the trait states them. Assumes nothing.
+-- That a measure and a cursor keep the laws of a sink, as the trait states them. Assumes nothing.
 use Rattle.std.proofs.Common.{◌≡◌, ℕ, ◌+◌, ◌≤◌, List, [], ◌++◌, length, refl, sym, ap, ◌∙◌, arith}
 use Rattle.std.proofs.lemmas.List.{length-append, length-take-le, length-drop}
 use Rattle.netlist.specs.Buffers.{written}
 use Rattle.netlist.proofs.Buffers.{written_none, written_written}
 use Rattle.spelling.specs.declared.sinks.Cursor.{Cursor}
-use Rattle.spelling.specs.Sinks.{HasRoom, Written}
+use Rattle.spelling.specs.declared.sinks.Measure.{Measure}
+use Rattle.spelling.specs.Sinks.{AlwaysRoom, Counted, HasRoom, Written}
+
+pub counted_nothing : (s : Measure) → AlwaysRoom s [] → Counted s [] s
+counted_nothing s h = omega arith
+
+pub counted_both : (s t u : Measure) (xs ys : List ℕ) → Counted s xs t → Counted t ys u → Counted s (xs ++ ys) u
+counted_both s t u xs ys p q = omega (arith, length-append xs ys)
+
+pub always_room_first : (s : Measure) (xs ys : List ℕ) → AlwaysRoom s (xs ++ ys) → AlwaysRoom s xs
+always_room_first s xs ys h = h
+
+pub always_room_second : (s t : Measure) (xs ys : List ℕ) → Counted s xs t → AlwaysRoom s (xs ++ ys) → AlwaysRoom t ys
+always_room_second s t xs ys p h = h
 
 length_written : (old new : List ℕ) (at : ℕ) → at + length new ≤ length old → length (written old at new) ≡ length old
 length_written old new at h = grind (arith, length-append, length-take-le, length-drop)

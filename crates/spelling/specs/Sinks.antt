@@ -1,8 +1,12 @@
 -- What it is to give bytes to a measure or to a cursor. Assumes nothing.
-use Rattle.std.specs.Prelude.{◌≡◌, ℕ, ◌+◌, ◌-◌, ◌^◌, ◌≤◌, List, length, min}
+use Rattle.std.specs.Prelude.{◌≡◌, ℕ, ◌+◌, ◌-◌, ◌^◌, ◌≤◌, List, length, min, ⊤}
 use Rattle.netlist.specs.Buffers.{written}
 use Rattle.spelling.specs.declared.sinks.Cursor.{Cursor}
 use Rattle.spelling.specs.declared.sinks.Measure.{Measure}
+
+-- a count has room for any text
+abbrev pub AlwaysRoom : Measure → List ℕ → Type 0
+AlwaysRoom before text = ⊤
 
 -- counts of 2^64 - 1 and more are not told apart
 abbrev pub Counted : Measure → List ℕ → Measure → Type 0

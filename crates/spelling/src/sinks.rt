@@ -1,9 +1,8 @@
 // What a text is given to, piece after piece: a count of its bytes, or a buffer. So each text is spelled
 // once, and is first measured and then written.
-ghost use Rattle.std.specs.Prelude.{◌≡◌, ℕ, ◌+◌, ◌≤◌, List, [], ◌++◌, length, ⊤};
-ghost use Rattle.spelling.specs.Sinks.{Counted, HasRoom, Written};
-ghost use Rattle.spelling.specs.Lawful.{written_nothing, written_both, has_room_first, has_room_second};
-ghost use Rattle.std.proofs.Common.{arith, length-append};
+ghost use Rattle.std.specs.Prelude.{◌≡◌, ℕ, ◌+◌, ◌≤◌, List, [], ◌++◌, length};
+ghost use Rattle.spelling.specs.Sinks.{AlwaysRoom, Counted, HasRoom, Written};
+ghost use Rattle.spelling.specs.Lawful.{counted_nothing, counted_both, always_room_first, always_room_second, written_nothing, written_both, has_room_first, has_room_second};
 
 pub(crate) trait Sink {
     // That these bytes go in.
@@ -36,17 +35,17 @@ pub(crate) struct Measure {
 }
 
 impl Sink for Measure {
-    ghost has_room = { λ _ _. ⊤ };
+    ghost has_room = { AlwaysRoom };
 
     ghost puts = { Counted };
 
-    ghost puts_nothing = { λ s _. Prim.omega arith };
+    ghost puts_nothing = { counted_nothing };
 
-    ghost puts_both = { λ s t u xs ys p q. Prim.omega (arith, length-append xs ys) };
+    ghost puts_both = { counted_both };
 
-    ghost room_first = { λ _ _ _ h. h };
+    ghost room_first = { always_room_first };
 
-    ghost room_second = { λ _ _ _ _ _ h. h };
+    ghost room_second = { always_room_second };
 
     fn put(&mut self, bytes: &[u8]) {
         self.used = self.used.saturating_add(bytes.len());
