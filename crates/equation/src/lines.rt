@@ -1,7 +1,6 @@
 // The call that prints one equation of a sheet.
 ghost use Rattle.std.specs.Prelude.{◌≡◌};
 ghost use Rattle.netlist.specs.Buffers.{filled};
-ghost use Rattle.sheet.specs.Held.{netlist_of_sheet};
 ghost use Rattle.spelling.specs.Lines.{line_text};
 ghost use Rattle.equation.specs.Equations.{node_sum};
 ghost use Rattle.equation.specs.Printing.{line_of, judge_line, answer_line, Printed};
@@ -16,7 +15,7 @@ use spelling::lines::write_line;
 
 // Prints the sum of the flows at a node.
 fn node_line(sheet: &Sheet, node: usize, buffer: &mut [u8]) -> Result<usize, Refusal>
-    ensures { let netlist = netlist_of_sheet sheet.now in Printed buffer.old (line_text netlist.variables (node_sum netlist.rows node)) result buffer.new }
+    ensures { Printed buffer.old (line_text sheet.now.variables (node_sum sheet.now.rows node)) result buffer.new }
 {
     // An array and a count: no memory is taken once a draft is made, and `put_node` fills a slice.
     let mut terms = [Term::value(1, 0); MAX_ROWS];
@@ -26,8 +25,8 @@ fn node_line(sheet: &Sheet, node: usize, buffer: &mut [u8]) -> Result<usize, Ref
 
 // Prints equation `k` of the sheet, and answers how many bytes that took.
 pub fn line(sheet: &Sheet, k: usize, buffer: &mut [u8]) -> Result<usize, Refusal>
-    ensures answer { result ≡ answer_line (netlist_of_sheet sheet.now) k buffer.old }
-    ensures buffer { buffer.new ≡ filled (judge_line (netlist_of_sheet sheet.now) k buffer.old) buffer.old (line_of (netlist_of_sheet sheet.now) k) }
+    ensures answer { result ≡ answer_line sheet.now k buffer.old }
+    ensures buffer { buffer.new ≡ filled (judge_line sheet.now k buffer.old) buffer.old (line_of sheet.now k) }
 {
     let laws = sheet.laws();
     let variables = sheet.variables();

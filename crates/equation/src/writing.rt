@@ -2,7 +2,6 @@
 ghost use Rattle.std.specs.Prelude.{◌≡◌, ◌+◌, ◌<◌, ◌≤◌, length, slice_set};
 ghost use Rattle.netlist.specs.Buffers.{over};
 ghost use Rattle.netlist.specs.Pieces.{flat};
-ghost use Rattle.sheet.specs.Held.{netlist_of_sheet};
 ghost use Rattle.equation.specs.Equations.{node_sum, equations_of};
 ghost use Rattle.equation.specs.Listing.{spans_from, listing_of};
 ghost use Rattle.equation.specs.Writing.{Put};
@@ -70,10 +69,10 @@ impl Lister<'_> {
 
 // Writes all equations of a sheet from the buffers' starts on.
 pub(crate) fn put_equations(sheet: &Sheet, terms: &mut [Term], spans: &mut [Span])
-    requires terms_room { (listing_of (netlist_of_sheet sheet.now)).terms ≤ length terms.old }
-    requires spans_room { (listing_of (netlist_of_sheet sheet.now)).equations ≤ length spans.old }
-    ensures terms { terms.new ≡ over terms.old (flat (equations_of (netlist_of_sheet sheet.now))) }
-    ensures spans { spans.new ≡ over spans.old (spans_from 0 (equations_of (netlist_of_sheet sheet.now))) }
+    requires terms_room { (listing_of sheet.now).terms ≤ length terms.old }
+    requires spans_room { (listing_of sheet.now).equations ≤ length spans.old }
+    ensures terms { terms.new ≡ over terms.old (flat (equations_of sheet.now)) }
+    ensures spans { spans.new ≡ over spans.old (spans_from 0 (equations_of sheet.now)) }
 {
     let mut lister = Lister {
         terms,

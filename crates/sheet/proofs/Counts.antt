@@ -5,7 +5,7 @@ use Rattle.netlist.specs.Domains.{domain_number}
 use Rattle.netlist.specs.Netlist.{term_count}
 use Rattle.netlist.specs.Pieces.{total}
 use Rattle.netlist.proofs.Cuts.{length_pieces, count_pieces}
-use Rattle.sheet.specs.declared.drafts.Draft.{Draft}
+use Rattle.sheet.specs.declared.drafts.Draft.TheInside.{Inside}
 use Rattle.sheet.specs.declared.laws.LawTable.{LawTable}
 use Rattle.sheet.specs.Held.{laws_of, netlist_of}
 
@@ -19,5 +19,5 @@ module _ (t : LawTable) where
   pub term_count_of : term_count (laws_of t) ≡ t.terms.len
   term_count_of = omega (arith, count_pieces t.lengths.items t.terms.items table_cut)
 
-pub node_count : (d : Draft) → length (netlist_of d).domains ≡ d.domains.len
+pub node_count : (d : Inside) → length (netlist_of d).domains ≡ d.domains.len
 node_count d = omega (arith, length-map d.domains.items domain_number)

@@ -1,13 +1,8 @@
 // A draft: what has been drawn so far.
-ghost use Rattle.std.specs.Prelude.{◌≡◌, true, map};
-ghost use Rattle.netlist.specs.Domains.{domain_number};
-ghost use Rattle.netlist.specs.Flags.{Marked};
-ghost use Rattle.netlist.specs.Sound.{every, joins, names};
-ghost use Rattle.sheet.specs.Room.{Roomy};
-
 use crate::laws::LawTable;
 use netlist::domains::Domain;
 use netlist::rows::Row;
+use std::marker::Model;
 
 mod adding;
 pub mod calls;
@@ -29,10 +24,17 @@ pub struct Draft {
     taken: Vec<bool>,
     rows: Vec<Row>,
     laws: LawTable,
-    ghost nodes_fit: { Roomy domains 1000 },
-    ghost variables_fit: { Roomy taken 4000 },
-    ghost rows_fit: { Roomy rows 1500 },
-    ghost joined: { every (joins (map domain_number domains.items)) rows.items ≡ true },
-    ghost marked: { Marked taken.items rows.items },
-    ghost named: { every (names taken.len) laws.terms.items ≡ true },
+}
+
+// Clauses see a draft as its netlist.
+impl Model for Draft {
+    ghost use Rattle.netlist.specs.Netlist.{Netlist};
+
+    ghost Value = { Netlist };
+
+    ghost use Rattle.sheet.specs.Held.{netlist_of, Kept};
+
+    ghost view = { netlist_of };
+
+    ghost invariant = { Kept };
 }

@@ -1,10 +1,9 @@
 // What has passed is added to a draft. Each step keeps what a draft keeps to.
-ghost use Rattle.std.specs.Prelude.{◌≡◌, ◌+◌, ◌<◌, ◌≤◌, [], ◌∷◌, ◌++◌, length, None, vec_len};
+ghost use Rattle.std.specs.Prelude.{◌≡◌, ◌+◌, ◌<◌, ◌≤◌, [], ◌∷◌, ◌++◌, length, None};
 ghost use Rattle.netlist.specs.Domains.{domain_number};
 ghost use Rattle.netlist.specs.Netlist.{with_nodes, with_variables, with_rows};
 ghost use Rattle.netlist.specs.Rules.{first_of, table_row, room_law};
 ghost use Rattle.netlist.specs.Sound.{Lawful};
-ghost use Rattle.sheet.specs.Held.{netlist_of, laws_of};
 
 use crate::drafts::Draft;
 use netlist::domains::Domain;
@@ -13,24 +12,24 @@ use netlist::terms::Term;
 
 impl Draft {
     pub(super) fn add_node(&mut self, domain: Domain)
-        requires { vec_len self.old.domains < 1000 }
-        ensures { netlist_of self.new ≡ with_nodes (netlist_of self.old) (domain_number domain ∷ []) }
+        requires { length self.old.domains < 1000 }
+        ensures { self.new ≡ with_nodes self.old (domain_number domain ∷ []) }
     {
         self.domains.push_reserved(domain);
     }
 
     pub(super) fn add_variables(&mut self, count: usize)
-        requires { vec_len self.old.taken + count ≤ 4000 }
-        ensures { netlist_of self.new ≡ with_variables (netlist_of self.old) count }
+        requires { self.old.variables + count ≤ 4000 }
+        ensures { self.new ≡ with_variables self.old count }
     {
         let variables = self.taken.len() + count;
         self.taken.resize(variables, false).unwrap();
     }
 
     pub(super) fn add_row(&mut self, row: Row)
-        requires room { vec_len self.old.rows < 1500 }
-        requires passed { first_of (table_row (netlist_of self.old) row) ≡ None }
-        ensures { netlist_of self.new ≡ with_rows (netlist_of self.old) (row ∷ []) }
+        requires room { length self.old.rows < 1500 }
+        requires passed { first_of (table_row self.old row) ≡ None }
+        ensures { self.new ≡ with_rows self.old (row ∷ []) }
     {
         let flow = row.flow();
         let across = row.across();
@@ -40,9 +39,9 @@ impl Draft {
     }
 
     pub(super) fn add_law(&mut self, law: &[Term])
-        requires room { first_of (room_law (laws_of self.old.laws) (length law.now)) ≡ None }
-        requires lawful { Lawful (vec_len self.old.taken) law.now }
-        ensures { netlist_of self.new ≡ record (netlist_of self.old) { laws = laws_of self.old.laws ++ law.now ∷ [] } }
+        requires room { first_of (room_law self.old.laws (length law.now)) ≡ None }
+        requires lawful { Lawful self.old.variables law.now }
+        ensures { self.new ≡ record self.old { laws = self.old.laws ++ law.now ∷ [] } }
     {
         self.laws.add(law);
     }

@@ -4,7 +4,6 @@ ghost use Rattle.std.specs.Prelude.{◌≡◌, IfOk};
 ghost use Rattle.netlist.specs.declared.rows.Row.TheVariants.{Branch, Earth};
 ghost use Rattle.netlist.specs.Netlist.{empty};
 ghost use Rattle.netlist.specs.Rules.{answer_node, after_node, answer_variables, after_variables, answer_row, after_row, answer_law, after_law};
-ghost use Rattle.sheet.specs.Held.{netlist_of};
 
 use crate::drafts::{Draft, MAX_NODES, MAX_ROWS, MAX_VARIABLES};
 use crate::laws::LawTable;
@@ -17,7 +16,7 @@ use std::alloc::{AllocError, Global};
 impl Draft {
     // An empty draft, with the memory for all that it may come to hold.
     pub fn new(heap: Global) -> Result<Draft, AllocError>
-        ensures { IfOk result (λ d. netlist_of d ≡ empty) }
+        ensures { IfOk result (λ d. d ≡ empty) }
     {
         Ok(Draft {
             domains: Vec::with_capacity(heap, MAX_NODES)?,
@@ -31,8 +30,8 @@ impl Draft {
     // to refuse a wrong one is its part.
     #[tactic(auto, using(netlist::proofs::Rooms::no_node_left, netlist::proofs::Rooms::node_left, crate::proofs::Counts::node_count))]
     pub fn node(&mut self, domain: u32) -> Result<usize, Refusal>
-        ensures answer { result ≡ answer_node (netlist_of self.old) domain }
-        ensures netlist { netlist_of self.new ≡ after_node (netlist_of self.old) domain }
+        ensures answer { result ≡ answer_node self.old domain }
+        ensures netlist { self.new ≡ after_node self.old domain }
     {
         let Ok(kind) = Domain::try_from(domain) else {
             return Err(Refusal::Domain {
@@ -51,8 +50,8 @@ impl Draft {
 
     // Draws `count` variables, and answers the number of the first.
     pub fn variables(&mut self, count: usize) -> Result<usize, Refusal>
-        ensures answer { result ≡ answer_variables (netlist_of self.old) count }
-        ensures netlist { netlist_of self.new ≡ after_variables (netlist_of self.old) count }
+        ensures answer { result ≡ answer_variables self.old count }
+        ensures netlist { self.new ≡ after_variables self.old count }
     {
         let first = self.taken.len();
         if count > MAX_VARIABLES - first {
@@ -72,8 +71,8 @@ impl Draft {
         first: usize,
         second: usize,
     ) -> Result<usize, Refusal>
-        ensures answer { result ≡ answer_row (netlist_of self.old) (Branch flow across first second) }
-        ensures netlist { netlist_of self.new ≡ after_row (netlist_of self.old) (Branch flow across first second) }
+        ensures answer { result ≡ answer_row self.old (Branch flow across first second) }
+        ensures netlist { self.new ≡ after_row self.old (Branch flow across first second) }
     {
         self.row(Row::Branch {
             flow,
@@ -85,15 +84,15 @@ impl Draft {
 
     // Draws an earth at a node, and answers its row number.
     pub fn earth(&mut self, flow: usize, across: usize, node: usize) -> Result<usize, Refusal>
-        ensures answer { result ≡ answer_row (netlist_of self.old) (Earth flow across node) }
-        ensures netlist { netlist_of self.new ≡ after_row (netlist_of self.old) (Earth flow across node) }
+        ensures answer { result ≡ answer_row self.old (Earth flow across node) }
+        ensures netlist { self.new ≡ after_row self.old (Earth flow across node) }
     {
         self.row(Row::Earth { flow, across, node })
     }
 
     fn row(&mut self, row: Row) -> Result<usize, Refusal>
-        ensures answer { result ≡ answer_row (netlist_of self.old) row }
-        ensures netlist { netlist_of self.new ≡ after_row (netlist_of self.old) row }
+        ensures answer { result ≡ answer_row self.old row }
+        ensures netlist { self.new ≡ after_row self.old row }
     {
         self.judge_row(row)?;
         let number = self.rows.len();
@@ -103,8 +102,8 @@ impl Draft {
 
     // Adds the law that these terms add up to zero, and answers its number.
     pub fn law(&mut self, terms: &[RawTerm]) -> Result<usize, Refusal>
-        ensures answer { result ≡ answer_law (netlist_of self.old) terms.now }
-        ensures netlist { netlist_of self.new ≡ after_law (netlist_of self.old) terms.now }
+        ensures answer { result ≡ answer_law self.old terms.now }
+        ensures netlist { self.new ≡ after_law self.old terms.now }
     {
         let law = self.accept_law(terms)?;
         let number = self.laws.count();

@@ -17,13 +17,11 @@ const MAX_COEFFICIENT: u64 = 1_000_000;
 impl Draft {
     ghost use Rattle.std.specs.Prelude.{◌≡◌};
     ghost use Rattle.netlist.specs.Domains.{domain_number};
-    ghost use Rattle.netlist.specs.Flags.{flag_up, flag_tests};
-    ghost use Rattle.netlist.specs.Rules.{first_of, domain_of, judge_row, judge_law};
-    ghost use Rattle.sheet.specs.Held.{netlist_of};
+    ghost use Rattle.netlist.specs.Rules.{first_of, domain_of, taken_by, table_row, judge_row, judge_law};
     ghost use Rattle.sheet.specs.Judging.{Accepts, BeginsWith, Tells, node_tests, variable_tests};
 
     pub(super) fn judge_row(&self, row: Row) -> Result<(), Refusal>
-        ensures { Tells (judge_row (netlist_of self.now) row) result }
+        ensures { Tells (judge_row self.now row) result }
     {
         self.judge_named(row)?;
         if self.rows.len() >= MAX_ROWS {
@@ -34,7 +32,7 @@ impl Draft {
 
     // The terms of a law that finds room, in the first places of an array.
     pub(super) fn accept_law(&self, terms: &[RawTerm]) -> Result<[Term; MAX_LENGTH], Refusal>
-        ensures { Accepts (judge_law (netlist_of self.now) terms.now) (BeginsWith terms.now) result }
+        ensures { Accepts (judge_law self.now terms.now) (BeginsWith terms.now) result }
     {
         let law = accept_terms(self.taken.len(), terms)?;
         self.laws.judge_room(terms.len())?;
@@ -43,7 +41,7 @@ impl Draft {
 
     // Judges the nodes and variables that a row names.
     fn judge_named(&self, row: Row) -> Result<(), Refusal>
-        ensures { Tells (first_of (flag_tests (netlist_of self.now).domains self.now.taken.items row)) result }
+        ensures { Tells (first_of (table_row self.now row)) result }
     {
         match row {
             Row::Branch {
@@ -70,7 +68,7 @@ impl Draft {
     }
 
     fn domain(&self, node: usize, argument: Argument) -> Result<Domain, Refusal>
-        ensures { let domains = (netlist_of self.now).domains in Accepts (first_of (node_tests domains node argument)) (λ domain. domain_of domains node ≡ domain_number domain) result }
+        ensures { Accepts (first_of (node_tests self.now.domains node argument)) (λ domain. domain_of self.now.domains node ≡ domain_number domain) result }
     {
         self.domains
             .get(node)
@@ -79,7 +77,7 @@ impl Draft {
     }
 
     fn judge_variables(&self, flow: usize, across: usize) -> Result<(), Refusal>
-        ensures { Tells (first_of (variable_tests self.now.taken.len (flag_up self.now.taken.items) flow across)) result }
+        ensures { Tells (first_of (variable_tests self.now.variables (taken_by self.now.rows) flow across)) result }
     {
         if flow >= self.taken.len() {
             return Err(Refusal::NoVariable {

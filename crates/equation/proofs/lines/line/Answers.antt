@@ -4,7 +4,6 @@ use Rattle.netlist.specs.declared.refusals.Refusal.{Refusal}
 use Rattle.netlist.specs.declared.refusals.Refusal.TheVariants.{NoEquation}
 use Rattle.netlist.specs.Buffers.{filled}
 use Rattle.netlist.specs.Rules.{answer}
-use Rattle.sheet.specs.Held.{netlist_of_sheet}
 use Rattle.equation.specs.Equations.{row_equation}
 use Rattle.equation.specs.Printing.{line_of}
 use Rattle.equation.proofs.Counting.{length_listed}
@@ -14,7 +13,7 @@ use Rattle.equation.proofs.lines.line.Goals as goal
 
 pub returns-then-node-nodes : goal.returns-then-node-nodes
 returns-then-node-nodes c =
-    let b = netlist_of_sheet c.args.sheet.now in
+    let b = c.args.sheet.now in
     let laws = ap length c.laws-laws.ensures.value in
     let n = next_node b c.args.k _ b.rows (omega (arith, c.if-node-nodes.true)) refl (omega (arith, c.in_default.ensures)) in
     let p = lined b c.args.k c.args.buffer.now _ b.variables _ _ n refl c.node_line.ensures in
@@ -22,7 +21,7 @@ returns-then-node-nodes c =
 
 pub returns-in_err-row : goal.returns-in_err-row
 returns-in_err-row c =
-    let b = netlist_of_sheet c.args.sheet.now in
+    let b = c.args.sheet.now in
     let laws = ap length c.laws-laws.ensures.value in
     let rows = ap length c.rows.ensures.value in
     let past : length c.rows.result.now ≤ c.args.k - c.len.result - c.nodes-nodes.result = ltb-false _ _ (sym c.get.ensures.lookup.0 ∙ sym c.in_err-row.ensures.variant) in
@@ -35,7 +34,7 @@ returns-in_err-row c =
 
 pub returns : goal.returns
 returns c =
-    let b = netlist_of_sheet c.args.sheet.now in
+    let b = c.args.sheet.now in
     let laws = ap length c.laws-laws.ensures.value in
     let found = c.in_ok-row.ensures.ok_part in
     let within = rw found at c.get.ensures.lookup.3 in

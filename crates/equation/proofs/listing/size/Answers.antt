@@ -1,7 +1,6 @@
 use Rattle.std.proofs.Common.{length, ap, arith, rules}
 use Rattle.std.specs.List.{sum_by}
 use Rattle.netlist.specs.Netlist.{term_count}
-use Rattle.sheet.specs.Held.{netlist_of_sheet}
 use Rattle.equation.specs.Writing.{row_size}
 use Rattle.equation.proofs.Counting.{terms_are, equations_are, listing_same}
 use Rattle.equation.proofs.Sizing.{few}
@@ -16,7 +15,7 @@ overflow_add-result c =
 
 pub returns : goal.returns
 returns c =
-    let b = netlist_of_sheet c.args.sheet.now in
+    let b = c.args.sheet.now in
     let s = c.rows-rows.ensures.sound in
     let laws = c.laws-laws.ensures.value in
     let rows = c.rows-rows.ensures.value in

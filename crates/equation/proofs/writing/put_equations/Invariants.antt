@@ -1,5 +1,4 @@
 use Rattle.std.proofs.Common.{◌≡◌, ◌+◌, ◌≤◌, length, drop}
-use Rattle.sheet.specs.Held.{netlist_of_sheet}
 use Rattle.sheet.specs.Views.{laws_left}
 use Rattle.equation.specs.Equations.{equations_of}
 use Rattle.equation.proofs.Putting.{Listed}
@@ -7,7 +6,7 @@ use Rattle.equation.proofs.writing.put_equations.Given as goal
 
 abbrev pub invariant-loop-law : goal.invariant-loop-law
 invariant-loop-law l =
-    let b = netlist_of_sheet l.sheet in
+    let b = l.sheet in
     let lister = l.lister in
     record {
       can_next : (goal.iterator-loop-law).can_next l.law-iterator;
@@ -21,7 +20,7 @@ invariant-loop-law l =
 
 abbrev pub invariant-loop-node : goal.invariant-loop-node
 invariant-loop-node l =
-    let b = netlist_of_sheet l.sheet in
+    let b = l.sheet in
     let lister = l.lister in
     record {
       same_terms : lister.terms.ghost_name ≡ l.initial.lister.terms.ghost_name;
@@ -32,7 +31,7 @@ invariant-loop-node l =
 
 abbrev pub invariant-loop-row : goal.invariant-loop-row
 invariant-loop-row l =
-    let b = netlist_of_sheet l.sheet in
+    let b = l.sheet in
     let lister = l.lister in
     record {
       same_terms : lister.terms.ghost_name ≡ l.initial.lister.terms.ghost_name;

@@ -4,12 +4,14 @@ use Rattle.sheet.proofs.drafts.Draft.add_law.Goals as goal
 
 pub invariant_of-self : goal.invariant_of-self
 invariant_of-self c =
-    let d = c.args.self.now in
+    let d = c.self.inside in
+    let k = c.self.invariant in
+    let lawful = rw (← c.self.view_is) at c.requires.lawful in
     record {
-      nodes_fit = d.nodes_fit;
-      variables_fit = d.variables_fit;
-      rows_fit = d.rows_fit;
-      joined = d.joined;
-      marked = d.marked;
-      named = simp c.add.ensures.terms (every_append (names d.taken.len) d.laws.terms.items c.args.law.now d.named c.requires.lawful.named);
+      nodes_fit = k.nodes_fit;
+      variables_fit = k.variables_fit;
+      rows_fit = k.rows_fit;
+      joined = k.joined;
+      marked = k.marked;
+      named = simp c.add.ensures.terms (every_append (names d.taken.len) d.laws.terms.items c.args.law.now k.named lawful.named);
     }

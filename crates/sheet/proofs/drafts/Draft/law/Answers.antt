@@ -5,7 +5,6 @@ use Rattle.netlist.specs.Netlist.{term_of}
 use Rattle.netlist.specs.Rules.{first_of, table_law, room_law}
 use Rattle.netlist.specs.Sound.{Lawful, is_term_count}
 use Rattle.netlist.proofs.Tables.{parts, law_accepted}
-use Rattle.sheet.specs.Held.{netlist_of}
 use Rattle.sheet.proofs.drafts.Draft.law.Goals as goal
 
 -- what passes the table of a law keeps to a law's bounds
@@ -16,7 +15,7 @@ lawful n ts h =
 
 pub add_law-requires-clause-room : goal.add_law-requires-clause-room
 add_law-requires-clause-room c =
-    let b = netlist_of c.args.self.now in
+    let b = c.args.self.now in
     let ts = c.args.terms.now in
     let told = c.in_ok-law.ensures in
     let long = ap length told.1.1 ∙ length-map ts term_of in
@@ -24,7 +23,7 @@ add_law-requires-clause-room c =
 
 pub add_law-requires-clause-lawful : goal.add_law-requires-clause-lawful
 add_law-requires-clause-lawful c =
-    let b = netlist_of c.args.self.now in
+    let b = c.args.self.now in
     let ts = c.args.terms.now in
     let told = c.in_ok-law.ensures in
     let passed = parts (table_law b.variables ts) (room_law b.laws (length ts)) told.0 in
