@@ -30,7 +30,8 @@ impl Draft {
         Ok(())
     }
 
-    // The terms of a law that finds room, in the first places of an array.
+    // The terms of a law that finds room, in the first places of an array. An `ArrayVec` would need a
+    // default of a term, which has none.
     pub(super) fn accept_law(&self, terms: &[RawTerm]) -> Result<[Term; MAX_LENGTH], Refusal>
         ensures { Accepts (judge_law self.now terms.now) (BeginsWith terms.now) result }
     {
