@@ -1,12 +1,10 @@
 -- Which variables the rows have, and what the flags say of it. Assumes nothing.
-use Rattle.std.proofs.Common.{◌≡◌, ℕ, ◌+◌, ◌<◌, ◌≤◌, Bool, true, false, eqb, ltb, List, [], ◌∷◌, ◌++◌, length, get_or, set, sym, ap, ◌∙◌, ⊎_elim, arith}
+use Rattle.std.proofs.Common.{◌≡◌, ℕ, ◌+◌, ◌<◌, ◌≤◌, Bool, true, false, eqb, List, [], ◌∷◌, ◌++◌, length, get_or, set, sym, ap, ◌∙◌, ⊎_elim, arith}
 use Rattle.std.proofs.lemmas.List.{length_push, get_or_append_left, get_or-set_same, get_or-set_other, length-set, get_or_past, get_or_push}
 use Rattle.std.proofs.lemmas.Bool.{eq-eqb, ne_eqb, cases_eq, cases_lt}
 use Rattle.netlist.specs.declared.rows.Row.{Row}
-use Rattle.netlist.specs.Flags.{Marked, flag_up, flag_tests, raised}
-use Rattle.netlist.specs.Netlist.{Netlist}
+use Rattle.netlist.specs.Flags.{Marked, raised}
 use Rattle.netlist.specs.Rows.{bit, hits, uses, flow_of, across_of}
-use Rattle.netlist.specs.Rules.{first_of, row_tests, taken_by, table_row}
 
 pub uses_push : (rows : List (Row ℕ)) (row : Row ℕ) (v : ℕ) → uses (rows ++ row ∷ []) v ≡ uses rows v + hits row v
 uses_push [] row v = omega arith
@@ -63,13 +61,3 @@ marked_once taken rows h v = omega (arith, h v, bit_le (get_or taken v false))
 
 pub marked_drawn : (taken : List Bool) (rows : List (Row ℕ)) → Marked taken rows → (v : ℕ) → length taken ≤ v → uses rows v ≡ 0
 marked_drawn taken rows h v l = h v ∙ ap bit (get_or_past taken v false l)
-
--- flags that agree with the rows judge as the rows do
-flag_bit : (f : Bool) (n : ℕ) → n ≡ bit f → f ≡ ltb 0 n
-flag_bit true n h = ap (λ (k : ℕ). ltb 0 k) (sym h)
-flag_bit false n h = ap (λ (k : ℕ). ltb 0 k) (sym h)
-
-pub same_tests : (b : Netlist) (flags : List Bool) (row : Row ℕ) → Marked flags b.rows → length flags ≡ b.variables → first_of (flag_tests b.domains flags row) ≡ first_of (table_row b row)
-same_tests b flags row marked long =
-    ap (λ (f : ℕ → Bool). first_of (row_tests b.domains (length flags) f row)) (λ i v. flag_bit (flag_up flags v) (uses b.rows v) (marked v) i)
-    ∙ ap (λ (n : ℕ). first_of (row_tests b.domains n (taken_by b.rows) row)) long

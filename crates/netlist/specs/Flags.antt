@@ -1,8 +1,7 @@
 -- A flag for each variable, up where a row has the variable. Assumes nothing.
-use Rattle.std.specs.Prelude.{◌≡◌, ℕ, Bool, true, false, List, length, slice_index_or, slice_set}
+use Rattle.std.specs.Prelude.{◌≡◌, ℕ, Bool, true, false, List, slice_index_or, slice_set}
 use Rattle.netlist.specs.declared.rows.Row.{Row}
 use Rattle.netlist.specs.Rows.{bit, uses, flow_of, across_of}
-use Rattle.netlist.specs.Rules.{Tests, row_tests}
 
 abbrev pub flag_up : List Bool → ℕ → Bool
 flag_up flags v = slice_index_or flags v false
@@ -11,10 +10,6 @@ flag_up flags v = slice_index_or flags v false
 -- twice, and none that is not drawn, since it has no flag.
 abbrev pub Marked : List Bool → List (Row ℕ) → Type 0
 Marked flags rows = (v : ℕ) → uses rows v ≡ bit (flag_up flags v)
-
--- the tests of a row, read on the flags
-abbrev pub flag_tests : List ℕ → List Bool → Row ℕ → Tests
-flag_tests domains flags row = row_tests domains (length flags) (flag_up flags) row
 
 -- the flags once the row is drawn
 abbrev pub raised : List Bool → Row ℕ → List Bool

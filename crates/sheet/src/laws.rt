@@ -13,7 +13,8 @@ pub(crate) const MAX_LAWS: usize = 1500;
 pub(crate) const MAX_TERMS: usize = 6000;
 
 // The laws' terms stand one after another in `terms`, and `lengths` says how many each law has. All
-// memory is reserved once, and a `Vec` for each law would need more at each call.
+// memory is reserved once, and a `Vec` for each law would need more at each call. It has no `Model`, since
+// a draft keeps a fact of all terms together, which a list of laws would hide.
 #[derive(Drop)]
 pub(crate) struct LawTable {
     lengths: Vec<usize>,
