@@ -2,16 +2,13 @@
 // it took to standard error.
 #![tactic(auto)]
 
-use equation::lines::line;
+use equation::lines::{LINE_BYTES, line};
 use equation::listing::{equations, size};
 use netlist::spans::Span;
 use netlist::terms::{RawTerm, Term};
 use sheet::{Draft, Sheet};
 use std::alloc::Global;
 use std::time::Instant;
-
-// As in `rigcobase`: a crate for one number would be no plainer.
-const LINE_BYTES: usize = 16_384;
 
 // 1,000 nodes in one domain, 4,000 variables, 1,500 branches and 1,500 laws of four terms.
 fn largest(heap: Global) -> anyhow::Result<Sheet> {

@@ -62,8 +62,8 @@ impl<A: Assembly, B: Assembly> SideBySide<A, B> {
 impl<A: Assembly, B: Assembly> Assembly for SideBySide<A, B> {
     ghost meaning = { λ s. beside (A.Assembly.meaning s.one) (B.Assembly.meaning s.other) };
 
-    // These hand on what `Pair` does, one line each, which no trait could take over: an impl of `Assembly` for
-    // every layer of two could stand in `assembly` alone.
+    // One line each, which no trait could take over: an impl of `Assembly` for every
+    // layer of two could stand in `assembly` alone.
     fn size(&self) -> Option<Size> {
         Some(self.halves()?.whole)
     }

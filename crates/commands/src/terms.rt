@@ -3,7 +3,8 @@ ghost use Rattle.std.specs.Prelude.{◌≡◌, ◌+◌, ◌<◌, take, slice_set
 
 use netlist::terms::{MOST_TERMS, RawTerm};
 
-// The first `count` of the slots are the law's terms. An `ArrayVec` would not be `Copy`, as a command is.
+// The first `count` of the slots are the law's terms. An `ArrayVec` would not be `Copy`, which a
+// command may not lose.
 #[derive(Clone, Copy, PartialEq, Eq, Debug)]
 pub struct Terms {
     pub slots: [RawTerm; MOST_TERMS],

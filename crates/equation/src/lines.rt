@@ -13,6 +13,10 @@ use sheet::Sheet;
 use sheet::drafts::MAX_ROWS;
 use spelling::lines::write_line;
 
+// A buffer of so many bytes holds each line of a sheet: the sum at a node, the longest, has at most 1,500
+// terms, each of at most 8 bytes with its blank.
+pub const LINE_BYTES: usize = 16_384;
+
 // Prints the sum of the flows at a node.
 fn node_line(sheet: &Sheet, node: usize, buffer: &mut [u8]) -> Result<usize, Refusal>
     ensures { Printed buffer.old (line_text sheet.now.variables (node_sum sheet.now.rows node)) result buffer.new }

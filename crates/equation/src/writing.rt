@@ -22,6 +22,8 @@ struct Lister<'a> {
     listed: usize,
 }
 
+// Each says what room it needs, which no fact of the type could tell of the equations to come, and that it
+// keeps its two buffers, as a struct that holds a `&mut` must.
 impl Lister<'_> {
     // Lists the equation whose `count` terms are written already, behind those of the others.
     fn close(&mut self, count: usize)

@@ -4,16 +4,12 @@
 mod hoist;
 
 use anyhow::Context;
-use equation::lines::line;
+use equation::lines::{LINE_BYTES, line};
 use equation::listing::size;
 use sheet::{Draft, Sheet};
 use spelling::headers::write_header;
 use std::alloc::Global;
 use std::io::Write;
-
-// No line is longer: the sum at a node has at most 1,500 terms, each of at most 8 bytes with its blank.
-// `benchmark` has the same number, for which a crate of its own would be no plainer.
-const LINE_BYTES: usize = 16_384;
 
 fn drawn(heap: Global) -> anyhow::Result<Sheet> {
     let mut draft = Draft::new(heap)?;
@@ -21,8 +17,8 @@ fn drawn(heap: Global) -> anyhow::Result<Sheet> {
     Ok(draft.issue())
 }
 
-// Writes what was printed into the buffer. `trials` has the same four lines, for which a crate of their own
-// would be no plainer.
+// Writes what was printed into the buffer. `trials` shows lines and prints a sheet in the same few lines, for
+// which a crate of their own would be no plainer.
 fn show(rt: &HostRuntime, buffer: &[u8], end: usize) -> anyhow::Result<()> {
     let text = buffer.get(..end).context("a line past its buffer")?;
     rt.stdout().write_all(text)?;

@@ -63,8 +63,8 @@ impl<A: Assembly, B: Assembly> Series<A, B> {
 impl<A: Assembly, B: Assembly> Assembly for Series<A, B> {
     ghost meaning = { λ s. series (A.Assembly.meaning s.first) (B.Assembly.meaning s.second) };
 
-    // These hand on what `Pair` does, one line each, which no trait could take over: an impl of `Assembly` for
-    // every layer of two could stand in `assembly` alone.
+    // One line each, but for `domain`, which no trait could take over: an impl of `Assembly` for every
+    // layer of two could stand in `assembly` alone.
     fn size(&self) -> Option<Size> {
         Some(self.halves()?.whole)
     }

@@ -27,6 +27,7 @@ struct Scanner<'a> {
     ghost within: { at ≤ length line.now },
 }
 
+// Each that takes something says that the line stays, as a `&mut self` that changes a part must.
 impl Scanner<'_> {
     // That the line goes wrong here.
     fn fault(&self) -> Fault

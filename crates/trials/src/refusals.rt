@@ -3,6 +3,7 @@ use crate::answers::tell;
 use netlist::terms::RawTerm;
 use sheet::Draft;
 
+// Any number may stand for the order: a trial shows that a wrong one is refused.
 fn term(coefficient: i64, order: u32, variable: usize) -> RawTerm {
     RawTerm {
         coefficient,
@@ -11,6 +12,7 @@ fn term(coefficient: i64, order: u32, variable: usize) -> RawTerm {
     }
 }
 
+// The runtime and the draft are passed on as they are: a struct of both would be no plainer.
 fn nodes(rt: &HostRuntime, draft: &mut Draft) -> anyhow::Result<()> {
     tell(rt, "node 0", draft.node(0))?;
     tell(rt, "node 5", draft.node(5))?;

@@ -7,8 +7,8 @@ use sheet::{Draft, Sheet};
 use spelling::headers::write_header;
 use std::io::Write;
 
-// Writes what was printed into the buffer. `rigcobase` has the same four lines, for which a crate of
-// their own would be no plainer.
+// Writes what was printed into the buffer. `rigcobase` shows lines and prints a sheet in the same few lines,
+// for which a crate of their own would be no plainer.
 fn show(rt: &HostRuntime, buffer: &[u8], end: usize) -> anyhow::Result<()> {
     let text = buffer.get(..end).context("a line past its buffer")?;
     rt.stdout().write_all(text)?;

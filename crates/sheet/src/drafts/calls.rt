@@ -63,7 +63,8 @@ impl Draft {
         Ok(first)
     }
 
-    // Draws a branch from its first node to its second, and answers its row number.
+    // Draws a branch from its first node to its second, and answers its row number. Each variable and node is
+    // an argument of its own, since a refusal tells its place among them.
     pub fn branch(
         &mut self,
         flow: usize,

@@ -39,6 +39,7 @@ impl Draft {
     }
 }
 
+// A draft is read through a reference of its own, since a proof opens a model at a variable.
 impl Sheet {
     // How many nodes there are.
     #[tactic(auto, using(crate::proofs::Counts::node_count))]
