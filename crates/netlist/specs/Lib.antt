@@ -8,3 +8,4 @@ pub mod Sound
 pub mod Flags
 pub mod Pieces
 pub mod Buffers
+pub mod Alike
