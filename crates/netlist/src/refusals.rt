@@ -14,7 +14,7 @@ pub enum Table {
     Terms,
 }
 
-// The argument at fault. A law's terms are counted from 1.
+// The argument at fault. A law's terms are counted from 1, and the ends of an assembly that is placed from 0.
 #[derive(Clone, Copy, PartialEq, Eq, Debug)]
 pub enum Argument {
     Domain,
@@ -24,6 +24,8 @@ pub enum Argument {
     Second,
     Node,
     Term { term: usize },
+    // The node that an end is placed at.
+    End { end: u8 },
 }
 
 #[derive(Clone, Copy, PartialEq, Eq, Debug)]
@@ -34,7 +36,7 @@ pub enum Refusal {
     NoNode { argument: Argument },
     // A variable number is not drawn.
     NoVariable { argument: Argument },
-    // A domain is not 1 to 4, or two nodes differ in domain.
+    // A domain is not 1 to 4, or two nodes differ in domain, or a node and the end placed at it.
     Domain { argument: Argument },
     // A row's variable is taken, or its across is its flow.
     Taken { argument: Argument },
@@ -42,6 +44,12 @@ pub enum Refusal {
     Coefficient { term: usize },
     // A law has no terms, or more than eight.
     TermCount,
+    // The assembly is void.
+    Void,
+    // A row of the plan would be refused, by a refusal of this number.
+    PlanRow { row: u16, cause: u32 },
+    // A law of the plan would be refused, likewise.
+    PlanLaw { law: u16, cause: u32 },
     // An order is neither 0 nor 1. Terms are counted from 1.
     Order { term: usize },
     // A buffer for terms, spans, a line or the header is short.
@@ -50,8 +58,8 @@ pub enum Refusal {
     NoEquation,
 }
 
-// No refusal here stems from another one.
-const NO_CAUSE: u32 = 0;
+// The place of law 0 of a plan. The places below are its rows'.
+const FIRST_LAW: usize = 10_000;
 
 impl From<Table> for usize {
     ghost from_gives = { λ table n. n ≡ table_number table };
@@ -79,6 +87,7 @@ impl From<Argument> for usize {
             Argument::Second => 4,
             Argument::Node => 3,
             Argument::Term { term } => term,
+            Argument::End { end } => 2 + usize::from(end),
         }
     }
 }
@@ -95,6 +104,8 @@ impl Refusal {
             Refusal::Taken { .. } => 5,
             Refusal::Coefficient { .. } => 6,
             Refusal::TermCount => 7,
+            Refusal::Void => 8,
+            Refusal::PlanRow { .. } | Refusal::PlanLaw { .. } => 9,
             Refusal::Order { .. } => 10,
             Refusal::ShortBuffer => 13,
             Refusal::NoEquation => 15,
@@ -111,6 +122,9 @@ impl Refusal {
             | Refusal::Domain { argument }
             | Refusal::Taken { argument } => usize::from(argument),
             Refusal::Coefficient { term } | Refusal::Order { term } => term,
+            Refusal::Void => 1,
+            Refusal::PlanRow { row, .. } => usize::from(row),
+            Refusal::PlanLaw { law, .. } => FIRST_LAW + usize::from(law),
             Refusal::TermCount | Refusal::ShortBuffer | Refusal::NoEquation => 0,
         }
     }
@@ -118,7 +132,10 @@ impl Refusal {
     pub fn cause(self) -> u32
         ensures { result ≡ cause self }
     {
-        NO_CAUSE
+        match self {
+            Refusal::PlanRow { cause, .. } | Refusal::PlanLaw { cause, .. } => cause,
+            _ => 0,
+        }
     }
 }
 
