@@ -1,3 +1,3 @@
-pub mod Counts
+pub mod Sizes
 pub mod Variables
 pub mod Whole

@@ -9,7 +9,7 @@ use Rattle.netlist.proofs.Rooms.{domain_named}
 use Rattle.netlist.proofs.Taking.{marked_once, marked_drawn}
 use Rattle.sheet.specs.declared.drafts.Draft.TheInside.{Inside}
 use Rattle.sheet.specs.Held.{netlist_of, Kept}
-use Rattle.sheet.proofs.Counts.{table_cut, law_count, term_count_of, node_count}
+use Rattle.sheet.proofs.Sizes.{table_cut, law_count, term_count_of, node_count}
 
 pub draft_sound : (d : Inside) → Kept d → Sound (netlist_of d)
 draft_sound d k =

@@ -1,4 +1,4 @@
 pub mod Room
 pub mod Held
-pub mod Judging
+pub mod Counting
 pub mod Views

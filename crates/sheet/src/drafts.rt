@@ -6,6 +6,7 @@ use std::marker::Model;
 
 mod adding;
 pub mod calls;
+pub mod counting;
 pub mod issued;
 mod judging;
 pub mod views;

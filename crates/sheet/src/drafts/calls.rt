@@ -28,7 +28,7 @@ impl Draft {
 
     // Draws a node of the domain of this number, and answers the node's number. It takes any number, since
     // to refuse a wrong one is its part.
-    #[tactic(auto, using(netlist::proofs::Rooms::no_node_left, netlist::proofs::Rooms::node_left, crate::proofs::Counts::node_count))]
+    #[tactic(auto, using(netlist::proofs::Rooms::no_node_left, netlist::proofs::Rooms::node_left, crate::proofs::Sizes::node_count))]
     pub fn node(&mut self, domain: u32) -> Result<usize, Refusal>
         ensures answer { result ≡ answer_node self.old domain }
         ensures netlist { self.new ≡ after_node self.old domain }

@@ -42,7 +42,7 @@ impl Draft {
 // A draft is read through a reference of its own, since a proof opens a model at a variable.
 impl Sheet {
     // How many nodes there are.
-    #[tactic(auto, using(crate::proofs::Counts::node_count))]
+    #[tactic(auto, using(crate::proofs::Sizes::node_count))]
     pub fn nodes(&self) -> usize
         ensures { result ≡ length self.now.domains }
     {

@@ -1,9 +1,10 @@
 // What is asked of the tables of laws, and how a law that has passed is stored.
-ghost use Rattle.std.specs.Prelude.{◌≡◌, true, [], ◌∷◌, ◌++◌, length, IfOk, None};
+ghost use Rattle.std.specs.Prelude.{◌≡◌, ◌+◌, true, [], ◌∷◌, ◌++◌, length, IfOk, None};
+ghost use Rattle.netlist.specs.Netlist.{term_count};
 ghost use Rattle.netlist.specs.Rules.{first_of, room_law};
 ghost use Rattle.netlist.specs.Sound.{every, is_sized, is_term_count};
 ghost use Rattle.sheet.specs.Held.{laws_of};
-ghost use Rattle.sheet.specs.Judging.{Tells};
+ghost use Rattle.judging.specs.Judging.{Tells};
 ghost use Rattle.sheet.specs.Views.{laws_in};
 
 use crate::drafts::views::LawView;
@@ -23,15 +24,31 @@ impl LawTable {
     }
 
     // How many laws there are.
-    #[tactic(auto, using(crate::proofs::Counts::law_count))]
+    #[tactic(auto, using(crate::proofs::Sizes::law_count))]
     pub(crate) fn count(&self) -> usize
         ensures { result ≡ length (laws_of self.now) }
     {
         self.lengths.len()
     }
 
+    // How many laws more there is room for.
+    #[tactic(auto, using(crate::proofs::Sizes::law_count))]
+    pub(crate) fn laws_left(&self) -> usize
+        ensures { result + length (laws_of self.now) ≡ 1500 }
+    {
+        MAX_LAWS - self.lengths.len()
+    }
+
+    // How many terms of laws more there is room for.
+    #[tactic(auto, using(crate::proofs::Sizes::term_count_of))]
+    pub(crate) fn terms_left(&self) -> usize
+        ensures { result + term_count (laws_of self.now) ≡ 6000 }
+    {
+        MAX_TERMS - self.terms.len()
+    }
+
     // Whether a law of so many terms finds room.
-    #[tactic(auto, using(netlist::proofs::Rooms::no_law_left, netlist::proofs::Rooms::no_term_left, netlist::proofs::Rooms::room_left, crate::proofs::Counts::law_count, crate::proofs::Counts::term_count_of))]
+    #[tactic(auto, using(netlist::proofs::Rooms::no_law_left, netlist::proofs::Rooms::no_term_left, netlist::proofs::Rooms::room_left, crate::proofs::Sizes::law_count, crate::proofs::Sizes::term_count_of))]
     pub(crate) fn judge_room(&self, count: usize) -> Result<(), Refusal>
         ensures { Tells (first_of (room_law (laws_of self.now) count)) result }
     {

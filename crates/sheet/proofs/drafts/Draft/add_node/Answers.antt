@@ -2,7 +2,7 @@ use Rattle.std.proofs.Common.{map, arith}
 use Rattle.std.proofs.lemmas.List.{map_push}
 use Rattle.netlist.specs.Domains.{domain_number}
 use Rattle.netlist.proofs.Joining.{all_join_node}
-use Rattle.sheet.proofs.Counts.{node_count}
+use Rattle.sheet.proofs.Sizes.{node_count}
 use Rattle.sheet.proofs.drafts.Draft.add_node.Goals as goal
 
 pub invariant_of-self : goal.invariant_of-self

@@ -5,7 +5,7 @@ use Rattle.netlist.proofs.Cuts.{total_push, pieces_push}
 use Rattle.netlist.proofs.Every.{every_push, every_append}
 use Rattle.netlist.proofs.Rooms.{laws_left, terms_left}
 use Rattle.sheet.specs.Held.{laws_of}
-use Rattle.sheet.proofs.Counts.{table_cut, law_count, term_count_of}
+use Rattle.sheet.proofs.Sizes.{table_cut, law_count, term_count_of}
 use Rattle.sheet.proofs.laws.LawTable.add.Goals as goal
 
 pub unwrap-requires : goal.unwrap-requires

@@ -7,7 +7,7 @@ use Rattle.netlist.specs.declared.terms.RawTerm.{RawTerm}
 use Rattle.netlist.specs.Netlist.{term_of}
 use Rattle.netlist.specs.Rules.{first_of, table_terms, table_law}
 use Rattle.netlist.proofs.Tables.{terms_next, terms_stop}
-use Rattle.sheet.proofs.drafts.judging.accept_terms.Goals as goal
+use Rattle.judging.proofs.laws.accept_terms.Goals as goal
 
 -- a law whose terms are not too few or too many is judged by its terms
 law_counted : (n : ℕ) (ts : List (RawTerm ℕ)) → false ≡ (length ts == 0) → length ts ≤ 8 → first_of (table_law n ts) ≡ first_of (table_terms n 1 ts)

@@ -1,7 +1,7 @@
 use Rattle.std.proofs.Common.{◌≡◌, ◌+◌, map, take, drop, length}
 use Rattle.netlist.specs.Netlist.{term_of}
 use Rattle.netlist.specs.Rules.{first_of, table_terms}
-use Rattle.sheet.proofs.drafts.judging.accept_terms.Given as goal
+use Rattle.judging.proofs.laws.accept_terms.Given as goal
 
 -- the terms so far have passed and are in their places, so the rest decides
 abbrev pub invariant-loop-i : goal.invariant-loop-i

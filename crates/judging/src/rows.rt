@@ -1,0 +1,67 @@
+// What can be wrong with a row, apart from want of room.
+ghost use Rattle.std.specs.Prelude.{◌≡◌};
+ghost use Rattle.netlist.specs.Domains.{domain_number};
+ghost use Rattle.netlist.specs.Rules.{first_of, domain_of, row_tests};
+ghost use Rattle.judging.specs.Judging.{Accepts, Tells, node_tests, variable_tests};
+
+use crate::grounds::Ground;
+use netlist::domains::Domain;
+use netlist::refusals::{Argument, Refusal};
+use netlist::rows::Row;
+
+// Judges the nodes and variables that a row names.
+pub fn judge_row<G: Ground>(ground: &G, row: Row) -> Result<(), Refusal>
+    ensures { Tells (first_of (row_tests (G.Ground.domains ground.now) (G.Ground.variables ground.now) (G.Ground.taken ground.now) row)) result }
+{
+    match row {
+        Row::Branch {
+            flow,
+            across,
+            first,
+            second,
+        } => {
+            let first = find_node(ground, first, Argument::First)?;
+            let second = find_node(ground, second, Argument::Second)?;
+            judge_variables(ground, flow, across)?;
+            if first != second {
+                return Err(Refusal::Domain {
+                    argument: Argument::Second,
+                });
+            }
+            Ok(())
+        }
+        Row::Earth { flow, across, node } => {
+            find_node(ground, node, Argument::Node)?;
+            judge_variables(ground, flow, across)
+        }
+    }
+}
+
+// The domain of a node that an argument names.
+fn find_node<G: Ground>(ground: &G, node: usize, argument: Argument) -> Result<Domain, Refusal>
+    ensures { Accepts (first_of (node_tests (G.Ground.domains ground.now) node argument)) (λ domain. domain_of (G.Ground.domains ground.now) node ≡ domain_number domain) result }
+{
+    ground.domain(node).ok_or(Refusal::NoNode { argument })
+}
+
+fn judge_variables<G: Ground>(ground: &G, flow: usize, across: usize) -> Result<(), Refusal>
+    ensures { Tells (first_of (variable_tests (G.Ground.variables ground.now) (G.Ground.taken ground.now) flow across)) result }
+{
+    let flow_taken = ground.is_taken(flow).ok_or(Refusal::NoVariable {
+        argument: Argument::Flow,
+    })?;
+    let across_taken = ground.is_taken(across).ok_or(Refusal::NoVariable {
+        argument: Argument::Across,
+    })?;
+    if flow_taken {
+        return Err(Refusal::Taken {
+            argument: Argument::Flow,
+        });
+    }
+    if across_taken || across == flow {
+        return Err(Refusal::Taken {
+            argument: Argument::Across,
+        });
+    }
+    Ok(())
+}
