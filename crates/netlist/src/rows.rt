@@ -37,3 +37,29 @@ impl<N: Copy> Row<N> {
         }
     }
 }
+
+// A row that is numbered narrowly, in the numbers of a sheet.
+impl From<Row<u32>> for Row<usize> {
+    ghost from_gives = { λ narrow row. row ≡ narrow };
+
+    fn from(row: Row<u32>) -> Row<usize> {
+        match row {
+            Row::Branch {
+                flow,
+                across,
+                first,
+                second,
+            } => Row::Branch {
+                flow: flow as usize,
+                across: across as usize,
+                first: first as usize,
+                second: second as usize,
+            },
+            Row::Earth { flow, across, node } => Row::Earth {
+                flow: flow as usize,
+                across: across as usize,
+                node: node as usize,
+            },
+        }
+    }
+}

@@ -1,0 +1,45 @@
+// The call that draws a whole assembly on a draft.
+#![tactic(auto)]
+
+ghost use Rattle.std.specs.Prelude.{◌≡◌, [], ◌∷◌};
+ghost use Rattle.place.specs.Place.{answer_place, after_place};
+
+mod drawing;
+mod ends;
+mod seats;
+
+use assembly::Assembly;
+use drawing::draw;
+use ends::judge_ends;
+use netlist::refusals::Refusal;
+use plan_judging::judge_plan;
+use plan_judging::terms::term_count;
+use seats::Seat;
+use sheet::{Counts, Draft};
+
+// Places an assembly with its ends at two nodes, which may be one: draws its inner nodes and its variables,
+// and then its rows and laws. Answers how much was drawn before, so that what is new can be found. All of
+// it is drawn, or nothing.
+pub fn place<A: Assembly>(
+    draft: &mut Draft,
+    part: &A,
+    first: usize,
+    second: usize,
+) -> Result<Counts, Refusal>
+    ensures answer { result ≡ answer_place draft.old (A.Assembly.meaning part.now) (first ∷ second ∷ []) }
+    ensures netlist { draft.new ≡ after_place draft.old (A.Assembly.meaning part.now) (first ∷ second ∷ []) }
+{
+    let size = part.size().ok_or(Refusal::Void)?;
+    judge_ends(draft, part, first, second)?;
+    judge_plan(part)?;
+    draft.judge_room(added(size), term_count(part))?;
+    let before = draft.counts();
+    let seat = Seat {
+        first,
+        second,
+        nodes: before.nodes as u16,
+        variables: before.variables as u16,
+    };
+    draw(draft, part, size, seat);
+    Ok(before)
+}

@@ -1,0 +1,32 @@
+// The laws of a plan are judged in turn.
+ghost use Rattle.std.specs.Prelude.{◌≡◌, ◌≤◌, length};
+ghost use Rattle.judging.specs.Judging.{Tells};
+ghost use Rattle.assembly.specs.Meaning.{Proper, laws_of};
+ghost use Rattle.plan_judging.specs.Alone.{judge_laws};
+
+use crate::terms::LawTerms;
+use assembly::Assembly;
+use judging::laws::accept_terms;
+use netlist::refusals::Refusal;
+
+// Judges each law over so many variables.
+pub(crate) fn judge_laws<A: Assembly>(
+    part: &A,
+    laws: usize,
+    variables: usize,
+) -> Result<(), Refusal>
+    requires all { laws ≡ length (laws_of (A.Assembly.meaning part.now)) }
+    requires proper { Proper (A.Assembly.meaning part.now) }
+    ensures { Tells (judge_laws variables 0 (laws_of (A.Assembly.meaning part.now))) result }
+{
+    for k in 0..laws {
+        let law = LawTerms::of(part, k, 0);
+        if let Err(why) = accept_terms(variables, law.as_slice()) {
+            return Err(Refusal::PlanLaw {
+                law: k as u16,
+                cause: why.number(),
+            });
+        }
+    }
+    Ok(())
+}

@@ -1,0 +1,25 @@
+// What would be refused of a plan wherever it is placed, told by the plan alone; and a plan's laws, term by term.
+#![tactic(auto)]
+
+ghost use Rattle.judging.specs.Judging.{Tells};
+ghost use Rattle.plan_judging.specs.Alone.{judge_assembly};
+
+mod ground;
+mod laws;
+mod rows;
+pub mod terms;
+
+use assembly::Assembly;
+use assembly::plans::Size;
+use netlist::refusals::Refusal;
+
+// The first row, or else the first law, that would be refused on the plan's own nodes and variables with
+// the rows before it. Want of room does not count.
+pub fn judge_plan<A: Assembly>(part: &A) -> Result<(), Refusal>
+    ensures { Tells (judge_assembly (A.Assembly.meaning part.now)) result }
+{
+    let size = part.size().ok_or(Refusal::Void)?;
+    let mut flags = [false; Size::MOST];
+    rows::judge_rows(part, size.rows, &mut flags[..size.variables])?;
+    laws::judge_laws(part, size.laws, size.variables)
+}

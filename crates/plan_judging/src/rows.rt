@@ -1,0 +1,39 @@
+// The rows of a plan are judged in turn.
+ghost use Rattle.std.specs.Prelude.{◌≡◌, ◌≤◌, Bool, [], List, length, map, replicate, false};
+ghost use Rattle.netlist.specs.Domains.{domain_number};
+ghost use Rattle.netlist.specs.Netlist.{Netlist};
+ghost use Rattle.judging.specs.Judging.{Tells};
+ghost use Rattle.assembly.specs.Meaning.{domains_of, rows_of};
+ghost use Rattle.plan_judging.specs.Alone.{judge_rows};
+
+use crate::ground::PlanGround;
+use assembly::Assembly;
+use judging::rows::judge_row;
+use netlist::refusals::Refusal;
+use netlist::rows::Row;
+
+// Judges each row with those before it drawn. `taken` has a flag for each variable, all down at first.
+pub(crate) fn judge_rows<A: Assembly>(
+    part: &A,
+    rows: usize,
+    taken: &mut [bool],
+) -> Result<(), Refusal>
+    requires all { rows ≡ length (rows_of (A.Assembly.meaning part.now)) }
+    requires few { rows ≤ 6000 }
+    requires free { taken.old ≡ replicate (length taken.old) false }
+    ensures { Tells (judge_rows (record { domains = map domain_number (domains_of (A.Assembly.meaning part.now)); variables = length taken.old; rows = []; laws = [] }) 0 (rows_of (A.Assembly.meaning part.now))) result }
+{
+    for k in 0..rows {
+        let row = Row::from(part.row(k).unwrap());
+        let ground = PlanGround { part, taken };
+        if let Err(why) = judge_row(&ground, row) {
+            return Err(Refusal::PlanRow {
+                row: k as u16,
+                cause: why.number(),
+            });
+        }
+        taken[row.flow()] = true;
+        taken[row.across()] = true;
+    }
+    Ok(())
+}

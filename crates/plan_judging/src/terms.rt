@@ -1,0 +1,68 @@
+// The terms of one law of a plan, gathered.
+ghost use Rattle.std.specs.Prelude.{◌≡◌};
+ghost use Rattle.netlist.specs.Netlist.{term_count};
+ghost use Rattle.assembly.specs.Meaning.{laws_of};
+
+use assembly::Assembly;
+use netlist::terms::{MOST_TERMS, RawTerm};
+use std::marker::Model;
+
+// At most eight terms, in the first places of an array, which needs no memory.
+#[derive(Drop)]
+pub struct LawTerms {
+    terms: [RawTerm; MOST_TERMS],
+    count: usize,
+}
+
+// Clauses see the list of the terms.
+impl Model for LawTerms {
+    ghost use Rattle.std.specs.Prelude.{ℕ, List, ◌≤◌, take};
+    ghost use Rattle.netlist.specs.declared.terms.RawTerm.{RawTerm};
+
+    ghost Value = { List (RawTerm ℕ) };
+
+    ghost view = { λ l. take l.count l.terms };
+
+    ghost invariant = { λ l. l.count ≤ 8 };
+}
+
+impl LawTerms {
+    ghost use Rattle.std.specs.Prelude.{◌≡◌, take};
+    ghost use Rattle.assembly.specs.Meaning.{terms_of};
+    ghost use Rattle.plan_judging.specs.Terms.{law_from};
+
+    // The first eight terms of law `k`, its variables counted from `from` on. A plan's law has no more.
+    pub fn of<A: Assembly>(part: &A, k: usize, from: u16) -> LawTerms
+        ensures { result ≡ take 8 (law_from from (terms_of (A.Assembly.meaning part.now) k)) }
+    {
+        let mut terms = [RawTerm::value(0, 0); MOST_TERMS];
+        for t in 0..MOST_TERMS {
+            let Some(term) = part.term(k, t) else {
+                return LawTerms { terms, count: t };
+            };
+            terms[t] = RawTerm {
+                coefficient: term.coefficient,
+                order: term.order,
+                variable: usize::from(from) + term.variable as usize,
+            };
+        }
+        LawTerms {
+            terms,
+            count: MOST_TERMS,
+        }
+    }
+
+    pub fn as_slice(&self) -> &[RawTerm]
+        ensures { result.now ≡ self.now }
+    {
+        &self.terms[..self.count]
+    }
+}
+
+// How many terms the laws of a plan have together.
+pub fn term_count<A: Assembly>(part: &A) -> usize
+    ensures { result ≡ term_count (laws_of (A.Assembly.meaning part.now)) }
+{
+    let laws = part.size().map_or(0, |size| size.laws);
+    (0..laws).filter_map(|k| part.law_len(k)).sum()
+}
