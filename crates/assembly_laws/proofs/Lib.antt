@@ -1,0 +1,4 @@
+pub mod Turned
+pub mod Numbers
+pub mod Twice
+pub mod Passing

@@ -1,0 +1,4 @@
+pub mod Turned
+pub mod Renumbering
+pub mod Twice
+pub mod Placed
