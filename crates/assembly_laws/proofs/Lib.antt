@@ -2,3 +2,8 @@ pub mod Turned
 pub mod Numbers
 pub mod Twice
 pub mod Passing
+pub mod Renamed
+pub mod Lawful
+pub mod Nodes
+pub mod Alike
+pub mod Fits
