@@ -7,3 +7,5 @@ pub mod Lawful
 pub mod Nodes
 pub mod Alike
 pub mod Fits
+pub mod Placing
+pub mod OneByOne
