@@ -9,3 +9,4 @@ pub mod Alike
 pub mod Fits
 pub mod Placing
 pub mod OneByOne
+pub mod Three

@@ -1,0 +1,20 @@
+-- Three parts in series. Assumes nothing.
+use Rattle.std.specs.Prelude.{◌≡◌, ℕ, ◌+◌, length}
+use Rattle.assembly.specs.Meaning.{Meaning, void, plan, Proper}
+use Rattle.series.specs.Series.{series}
+use Rattle.assembly_laws.specs.Placed.{inner_count}
+use Rattle.assembly_laws.specs.Renumbering.{MeansButNodes}
+use Rattle.assembly_laws.specs.Turned.{behind, before}
+
+-- Where the first two are taken together first, their joint comes before the inner nodes of the third and
+-- the other joint; where the last two are, behind them.
+abbrev pub joint_to_back : Meaning → Meaning → Meaning → ℕ → ℕ
+joint_to_back m n o = behind (2 + inner_count m + inner_count n) (inner_count o + 1)
+
+abbrev pub joint_to_front : Meaning → Meaning → Meaning → ℕ → ℕ
+joint_to_front m n o = before (2 + inner_count m + inner_count n) (inner_count o + 1)
+
+-- THEOREM: it makes no difference which two are taken together first, but for the number of a joint
+abbrev pub SeriesIsAssociative : Type 0
+SeriesIsAssociative =
+    (m n o : Meaning) → Proper m → Proper n → Proper o → MeansButNodes (joint_to_back m n o) (joint_to_front m n o) (series (series m n) o) (series m (series n o))
