@@ -10,3 +10,4 @@ pub mod Fits
 pub mod Placing
 pub mod OneByOne
 pub mod Three
+pub mod Associative

@@ -34,7 +34,7 @@ module _ (s t w st tw : Size) (st_inner : st.inner ≡ s.inner + t.inner + 1) (t
   joint_right : moved_node (back_place s tw) (2 + t.inner + w.inner) ≡ 2 + s.inner + t.inner + w.inner
   joint_right = inner_at (back_place s tw) (2 + t.inner + w.inner) (omega arith) (omega arith) ∙ omega arith
 
-  first_node : (k : ℕ) → to (moved_node (front_place st w) (moved_node (front_place s t) k)) ≡ moved_node (front_place s tw) k
+  pub first_node : (k : ℕ) → to (moved_node (front_place st w) (moved_node (front_place s t) k)) ≡ moved_node (front_place s tw) k
   first_node k =
       ⊎_elim
       (by_node (front_place s t) (λ k num. to (moved_node (front_place st w) num) ≡ moved_node (front_place s tw) k)
@@ -49,7 +49,7 @@ module _ (s t w st tw : Size) (st_inner : st.inner ≡ s.inner + t.inner + 1) (t
       ∙ sym (no_number (front_place s tw) k past))
       (cases_lt k (2 + s.inner))
 
-  second_node : (k : ℕ) → to (moved_node (front_place st w) (moved_node (back_place s t) k)) ≡ moved_node (back_place s tw) (moved_node (front_place t w) k)
+  pub second_node : (k : ℕ) → to (moved_node (front_place st w) (moved_node (back_place s t) k)) ≡ moved_node (back_place s tw) (moved_node (front_place t w) k)
   second_node k =
       ⊎_elim
       (by_node (back_place s t) (λ k num. to (moved_node (front_place st w) num) ≡ moved_node (back_place s tw) (moved_node (front_place t w) k))
@@ -66,7 +66,7 @@ module _ (s t w st tw : Size) (st_inner : st.inner ≡ s.inner + t.inner + 1) (t
       ∙ sym (lacks (back_place s tw) (moved_node (front_place t w) k) (no_number (front_place t w) k past) (omega arith)))
       (cases_lt k (2 + t.inner))
 
-  third_node : (k : ℕ) → to (moved_node (back_place st w) k) ≡ moved_node (back_place s tw) (moved_node (back_place t w) k)
+  pub third_node : (k : ℕ) → to (moved_node (back_place st w) k) ≡ moved_node (back_place s tw) (moved_node (back_place t w) k)
   third_node k =
       ⊎_elim
       (by_node (back_place st w) (λ k num. to num ≡ moved_node (back_place s tw) (moved_node (back_place t w) k))
@@ -81,3 +81,38 @@ module _ (s t w st tw : Size) (st_inner : st.inner ≡ s.inner + t.inner + 1) (t
       ap to (no_number (back_place st w) k past) ∙ to_absent
       ∙ sym (lacks (back_place s tw) (moved_node (back_place t w) k) (no_number (back_place t w) k past) (omega arith)))
       (cases_lt k (2 + w.inner))
+
+module _ (s t w st tw : Size) (st_variables : st.variables ≡ s.variables + t.variables) (tw_variables : tw.variables ≡ t.variables + w.variables) (few : s.variables + t.variables + w.variables ≤ 6000) where
+  lacks_variable : (r : Renumbering) (v : ℕ) → v ≡ absent → r.variables ≤ 6000 → moved_variable r v ≡ absent
+  lacks_variable r v e l = no_variable_number r v (omega arith)
+
+  pub first_variable : (v : ℕ) → moved_variable (front_place st w) (moved_variable (front_place s t) v) ≡ moved_variable (front_place s tw) v
+  first_variable v =
+      ⊎_elim
+      (λ l. ap (moved_variable (front_place st w)) (variable_number (front_place s t) v l) ∙ variable_number (front_place st w) (0 + v) (omega arith) ∙ omega (arith, variable_number (front_place s tw) v l))
+      (λ past.
+      lacks_variable (front_place st w) (moved_variable (front_place s t) v) (no_variable_number (front_place s t) v past) (omega arith)
+      ∙ sym (no_variable_number (front_place s tw) v past))
+      (cases_lt v s.variables)
+
+  pub second_variable : (v : ℕ) → moved_variable (front_place st w) (moved_variable (back_place s t) v) ≡ moved_variable (back_place s tw) (moved_variable (front_place t w) v)
+  second_variable v =
+      ⊎_elim
+      (λ l.
+      ap (moved_variable (front_place st w)) (variable_number (back_place s t) v l) ∙ variable_number (front_place st w) (s.variables + v) (omega arith)
+      ∙ omega arith ∙ sym (ap (moved_variable (back_place s tw)) (variable_number (front_place t w) v l) ∙ variable_number (back_place s tw) (0 + v) (omega arith)))
+      (λ past.
+      lacks_variable (front_place st w) (moved_variable (back_place s t) v) (no_variable_number (back_place s t) v past) (omega arith)
+      ∙ sym (lacks_variable (back_place s tw) (moved_variable (front_place t w) v) (no_variable_number (front_place t w) v past) (omega arith)))
+      (cases_lt v t.variables)
+
+  pub third_variable : (v : ℕ) → moved_variable (back_place st w) v ≡ moved_variable (back_place s tw) (moved_variable (back_place t w) v)
+  third_variable v =
+      ⊎_elim
+      (λ l.
+      variable_number (back_place st w) v l ∙ omega arith
+      ∙ sym (ap (moved_variable (back_place s tw)) (variable_number (back_place t w) v l) ∙ variable_number (back_place s tw) (t.variables + v) (omega arith)))
+      (λ past.
+      no_variable_number (back_place st w) v past
+      ∙ sym (lacks_variable (back_place s tw) (moved_variable (back_place t w) v) (no_variable_number (back_place t w) v past) (omega arith)))
+      (cases_lt v w.variables)
