@@ -1,19 +1,17 @@
 -- Three parts in series, taken together in two ways. Assumes nothing.
-use Rattle.std.proofs.Common.{◌≡◌, ℕ, suc, ◌+◌, ◌-◌, ◌<◌, ◌≤◌, Bool, true, false, cond, ◌&&◌, List, [], ◌∷◌, ◌++◌, map, length, None, Some, Option, sym, refl, ap, ◌∙◌, subst, ⊎_elim, arith}
+use Rattle.std.proofs.Common.{◌≡◌, ℕ, suc, ◌+◌, ◌-◌, ◌≤◌, true, List, [], ◌∷◌, ◌++◌, map, length, Option, sym, refl, ap, ◌∙◌, ⊎_elim, arith}
 use Rattle.std.specs.List.{slice_get}
 use Rattle.std.proofs.lemmas.Bool.{cases_lt, cases_eq}
-use Rattle.std.proofs.lemmas.List.{append_assoc, map-append, length-append, length-map, length_push}
+use Rattle.std.proofs.lemmas.List.{append_assoc, map-append, length-append, length_push}
 use Rattle.std.proofs.lemmas.Option.{slice_get_past}
 use Rattle.netlist.specs.declared.domains.Domain.{Domain}
-use Rattle.netlist.specs.declared.rows.Row.{Row}
 use Rattle.netlist.specs.Alike.{Renaming, renamed_row}
 use Rattle.assembly.specs.Plans.{PlanRow, PlanTerm}
-use Rattle.assembly.specs.declared.plans.Size.{Size}
-use Rattle.assembly.specs.Meaning.{Meaning, void, plan, Plan, Proper, size_in, is_small}
+use Rattle.assembly.specs.Meaning.{Plan, size_in, is_small}
 use Rattle.assembly.proofs.Nth.{nth_append_left, nth_append_right}
-use Rattle.layers.proofs.Small.{small_bounds, small_from}
+use Rattle.layers.proofs.Small.{small_bounds}
 use Rattle.layers.specs.declared.renumbering.Renumbering.{Renumbering}
-use Rattle.layers.specs.Renumbered.{moved_node, moved_variable, moved_row, moved_term}
+use Rattle.layers.specs.Renumbered.{moved_variable, moved_row, moved_term}
 use Rattle.series.specs.Series.{in_series, front_place, back_place}
 use Rattle.assembly_laws.specs.Turned.{before, behind}
 use Rattle.assembly_laws.specs.Renumbering.{nodes_only, PlanButNodes}
@@ -71,25 +69,25 @@ laws_agree : (f g : ℕ → ℕ) → ((v : ℕ) → f v ≡ g v) → (laws : Lis
 laws_agree f g e laws = (λ i. laws_as (λ v. e v i) laws)
 
 module _ (x y u v s t : Domain) (a b c : Plan) where
-  abbrev one : Plan
+  abbrev pub one : Plan
   one = with_ends (x ∷ y ∷ []) a
 
-  abbrev two : Plan
+  abbrev pub two : Plan
   two = with_ends (u ∷ v ∷ []) b
 
-  abbrev three : Plan
+  abbrev pub three : Plan
   three = with_ends (s ∷ t ∷ []) c
 
-  abbrev one_two : Plan
+  abbrev pub one_two : Plan
   one_two = in_series one two
 
-  abbrev two_three : Plan
+  abbrev pub two_three : Plan
   two_three = in_series two three
 
-  abbrev left : Plan
+  abbrev pub left : Plan
   left = in_series one_two three
 
-  abbrev right : Plan
+  abbrev pub right : Plan
   right = in_series one two_three
 
   inner_left : length one_two.inner ≡ length a.inner + length b.inner + 1

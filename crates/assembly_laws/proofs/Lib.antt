@@ -11,3 +11,4 @@ pub mod Placing
 pub mod OneByOne
 pub mod Three
 pub mod Associative
+pub mod Either

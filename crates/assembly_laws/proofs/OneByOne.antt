@@ -1,19 +1,19 @@
 -- Where a series is placed, its parts could be placed one by one. Assumes nothing.
-use Rattle.std.proofs.Common.{◌≡◌, ℕ, ◌+◌, ◌<◌, Bool, true, false, cond, ◌&&◌, List, [], ◌∷◌, None, Some, Option, sym, refl, ap, subst, arith}
+use Rattle.std.proofs.Common.{◌≡◌, ℕ, Bool, true, false, cond, ◌&&◌, List, [], ◌∷◌, None, sym, refl, ap, subst, arith}
 use Rattle.std.proofs.lemmas.Bool.{and_parts, eqb-true}
 use Rattle.netlist.specs.declared.domains.Domain.{Domain}
 use Rattle.netlist.specs.Domains.{domain_number}
 use Rattle.netlist.specs.Netlist.{Netlist}
 use Rattle.netlist.specs.Sound.{Sound}
 use Rattle.netlist.proofs.Rooms.{node_left}
-use Rattle.assembly.specs.Meaning.{Meaning, void, plan, Plan, Proper, size_in, is_small}
+use Rattle.assembly.specs.Meaning.{Meaning, void, plan, Plan, size_in, is_small}
 use Rattle.layers.proofs.Ends.{by_both_ends}
 use Rattle.series.specs.Series.{series, meet}
 use Rattle.place.specs.Place.{judge_place, judge_plan, with_assembly}
 use Rattle.assembly_laws.specs.Renumbering.{SameButNodes}
 use Rattle.assembly_laws.specs.Placed.{joint_before, joint_behind, with_both, PlacedOneByOne, SeriesIsPlacedOneByOne}
 use Rattle.assembly_laws.proofs.Alike.{same_alike}
-use Rattle.assembly_laws.proofs.Fits.{Fits, fits_from, fits_judged}
+use Rattle.assembly_laws.proofs.Fits.{fits_from, fits_judged}
 use Rattle.assembly_laws.proofs.Placing.{with_ends, one, other, whole, joined, fronted, few, same, front_fits, back_fits}
 
 -- what is placed is not void

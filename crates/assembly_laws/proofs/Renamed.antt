@@ -1,15 +1,14 @@
 -- Rows and laws in other numbers, and what it takes for two renamings to agree on them. Assumes nothing.
-use Rattle.std.proofs.Common.{◌≡◌, ℕ, ◌+◌, ◌<◌, List, [], ◌∷◌, ◌++◌, map, length, get_or, refl, ap, ◌∙◌}
+use Rattle.std.proofs.Common.{◌≡◌, ℕ, ◌<◌, List, [], ◌∷◌, ◌++◌, map, refl}
 use Rattle.std.specs.List.{AllByRecursion}
 use Rattle.netlist.specs.declared.rows.Row.{Row}
 use Rattle.netlist.specs.declared.rows.Row.TheVariants.{Branch, Earth}
 use Rattle.netlist.specs.Alike.{Renaming, renamed_row}
 use Rattle.netlist.specs.Netlist.{Netlist}
-use Rattle.assembly.specs.Plans.{PlanRow, PlanTerm}
+use Rattle.assembly.specs.Plans.{PlanRow}
 use Rattle.layers.specs.declared.renumbering.Renumbering.{Renumbering}
 use Rattle.layers.specs.Renumbered.{moved_node, moved_variable, moved_row}
 use Rattle.place.specs.Moved.{moved_node as placed_node, moved_variable as placed_variable, moved_row as placed_row}
-use Rattle.assembly_laws.specs.Renumbering.{nodes_only}
 use Rattle.assembly_laws.proofs.Passing.{Names, Kept, RowKept}
 
 -- from a part to its layer, and from a plan to the netlist

@@ -1,5 +1,5 @@
 -- The nodes and variables of three parts in series, taken together in two ways. Assumes nothing.
-use Rattle.std.proofs.Common.{◌≡◌, ℕ, suc, ◌+◌, ◌-◌, ◌<◌, ◌≤◌, sym, refl, ap, ◌∙◌, ⊎_elim, arith}
+use Rattle.std.proofs.Common.{◌≡◌, ℕ, suc, ◌+◌, ◌-◌, ◌<◌, ◌≤◌, sym, ap, ◌∙◌, ⊎_elim, arith}
 use Rattle.std.proofs.lemmas.Bool.{cases_lt}
 use Rattle.assembly.specs.declared.plans.Size.{Size}
 use Rattle.layers.specs.declared.renumbering.Renumbering.{Renumbering}

@@ -1,14 +1,13 @@
 -- Two copies of a part are the part in series with itself. Assumes nothing.
-use Rattle.std.proofs.Common.{take, drop, map, length, ⊎_elim, ◌≡◌, ℕ, ◌+◌, ◌*◌, Bool, true, false, cond, eqb, ◌&&◌, List, [], ◌∷◌, ◌++◌, Some, None, Option, sym, refl, ap, ◌∙◌, arith}
+use Rattle.std.proofs.Common.{length, ⊎_elim, ◌≡◌, ℕ, ◌+◌, ◌*◌, Bool, true, false, eqb, ◌&&◌, List, [], ◌++◌, Some, None, Option, sym, refl, ◌∙◌, arith}
 use Rattle.std.proofs.lemmas.List.{append-nil, take-append-drop}
 use Rattle.std.proofs.lemmas.Bool.{cases_eq, eq-eqb, ne_eqb}
 use Rattle.netlist.specs.Domains.{domain_number}
 use Rattle.netlist.specs.declared.domains.Domain.{Domain}
-use Rattle.assembly.specs.Meaning.{Meaning, void, plan, Plan, Proper, Bounded, size_in, is_small}
+use Rattle.assembly.specs.Meaning.{Meaning, void, plan, Plan, Proper, size_in}
 use Rattle.layers.specs.declared.renumbering.Renumbering.{Renumbering}
 use Rattle.layers.specs.Renumbered.{moved_rows, moved_laws}
 use Rattle.layers.specs.Layer.{layer_if, same_domain, domain_at, first_end, second_end}
-use Rattle.layers.proofs.Ends.{by_ends}
 use Rattle.series.specs.Series.{in_series, series, front_place, back_place, meet}
 use Rattle.repeat.specs.Repeat.{in_copies, repeated, copy_place, meet as ends_meet}
 

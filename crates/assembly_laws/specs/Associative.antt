@@ -1,6 +1,6 @@
 -- Three parts in series. Assumes nothing.
-use Rattle.std.specs.Prelude.{◌≡◌, ℕ, ◌+◌, length}
-use Rattle.assembly.specs.Meaning.{Meaning, void, plan, Proper}
+use Rattle.std.specs.Prelude.{ℕ, ◌+◌}
+use Rattle.assembly.specs.Meaning.{Meaning, Proper}
 use Rattle.series.specs.Series.{series}
 use Rattle.assembly_laws.specs.Placed.{inner_count}
 use Rattle.assembly_laws.specs.Renumbering.{MeansButNodes}

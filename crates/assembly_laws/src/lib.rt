@@ -1,8 +1,23 @@
-// Laws of layers.
+// Laws of layers and of placing. Each theorem is the contract of a function, which computes nothing.
 #![tactic(auto)]
 
 ghost use Rattle.assembly_laws.specs.Twice.{TwiceIsSeries};
+ghost use Rattle.assembly_laws.specs.Associative.{SeriesIsAssociative};
+ghost use Rattle.assembly_laws.specs.Placed.{SeriesIsPlacedOneByOne};
 
+// Two copies of a part mean the part in series with itself.
 pub fn twice_is_series()
     ensures { TwiceIsSeries }
+{}
+
+// Of three parts in series it makes no difference which two are taken together first, but for the number
+// of one joint.
+pub fn series_is_associative()
+    ensures { SeriesIsAssociative }
+{}
+
+// Where a series is placed, its parts can be placed one by one on a new node between them, and the netlist
+// is the same but for the nodes' numbers.
+pub fn series_is_placed_one_by_one()
+    ensures { SeriesIsPlacedOneByOne }
 {}
