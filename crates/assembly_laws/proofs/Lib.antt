@@ -12,3 +12,4 @@ pub mod OneByOne
 pub mod Three
 pub mod Associative
 pub mod Either
+pub mod Together

@@ -61,6 +61,14 @@ passing_parts domains n used (x ∷ xs) ys h =
     let same : (v : ℕ) → used v + hits x v + uses xs v ≡ used v + (hits x v + uses xs v) = λ v. omega arith in
     ((h.0, p.0), subst (λ u. Passing domains n u ys) (λ i v. same v i) p.1)
 
+pub passing_joined : (domains : List ℕ) (n : ℕ) (used : ℕ → ℕ) (xs ys : List (Row ℕ)) → Passing domains n used xs → Passing domains n (λ v. used v + uses xs v) ys → Passing domains n used (xs ++ ys)
+passing_joined domains n used [] ys h k =
+    let none : (v : ℕ) → used v + 0 ≡ used v = λ v. omega arith in
+    subst (λ u. Passing domains n u ys) (λ i v. none v i) k
+passing_joined domains n used (x ∷ xs) ys h k =
+    let same : (v : ℕ) → used v + (hits x v + uses xs v) ≡ used v + hits x v + uses xs v = λ v. omega arith in
+    (h.0, passing_joined domains n (λ v. used v + hits x v) xs ys h.1 (subst (λ u. Passing domains n u ys) (λ i v. same v i) k))
+
 -- what the rows name is drawn
 abbrev pub Names : ℕ → ℕ → Row ℕ → Type 0
 Names nodes n (Branch flow across first second) = (flow < n) × (across < n) × (first < nodes) × (second < nodes)

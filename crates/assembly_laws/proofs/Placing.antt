@@ -53,10 +53,10 @@ module _ (b : Netlist) (p q : ℕ) (x y u v : Domain) (a c : Plan) where
   abbrev pub whole : Plan
   whole = in_series one other
 
-  abbrev front : Renumbering
+  abbrev pub front : Renumbering
   front = front_place (size_in one) (size_in other)
 
-  abbrev back : Renumbering
+  abbrev pub back : Renumbering
   back = back_place (size_in one) (size_in other)
 
   abbrev pub joined : Netlist
@@ -68,40 +68,40 @@ module _ (b : Netlist) (p q : ℕ) (x y u v : Domain) (a c : Plan) where
   abbrev pub done : Netlist
   done = with_plan fronted (length b.domains ∷ q ∷ []) other
 
-  abbrev placed : Netlist
+  abbrev pub placed : Netlist
   placed = with_plan b (p ∷ q ∷ []) whole
 
-  abbrev to : ℕ → ℕ
+  abbrev pub to : ℕ → ℕ
   to = before (length b.domains) (length a.inner + length c.inner)
 
   -- the rows and laws of the whole, part by part
-  rows_are : placed_rows b (p ∷ q ∷ []) whole ≡ map (renamed_row (through b (p ∷ q ∷ []) front)) a.rows ++ map (renamed_row (through b (p ∷ q ∷ []) back)) c.rows
+  pub rows_are : placed_rows b (p ∷ q ∷ []) whole ≡ map (renamed_row (through b (p ∷ q ∷ []) front)) a.rows ++ map (renamed_row (through b (p ∷ q ∷ []) back)) c.rows
   rows_are =
       map-append (placed_row b (p ∷ q ∷ [])) (map (moved_row front) a.rows) (map (moved_row back) c.rows)
       ∙ (λ i. rows_through b (p ∷ q ∷ []) front a.rows i ++ rows_through b (p ∷ q ∷ []) back c.rows i)
 
-  laws_are : placed_laws b whole ≡ laws_as (λ v. b.variables + moved_variable front v) a.laws ++ laws_as (λ v. b.variables + moved_variable back v) c.laws
+  pub laws_are : placed_laws b whole ≡ laws_as (λ v. b.variables + moved_variable front v) a.laws ++ laws_as (λ v. b.variables + moved_variable back v) c.laws
   laws_are =
       map-append _ (map (map (moved_term front)) a.laws) (map (map (moved_term back)) c.laws)
       ∙ (λ i. laws_through b (p ∷ q ∷ []) front a.laws i ++ laws_through b (p ∷ q ∷ []) back c.laws i)
 
   -- the nodes
-  nodes_of_front : length joined.domains ≡ length b.domains + 1
+  pub nodes_of_front : length joined.domains ≡ length b.domains + 1
   nodes_of_front = length_push b.domains (domain_number y)
 
-  nodes_of_back : length fronted.domains ≡ length b.domains + 1 + length a.inner
+  pub nodes_of_back : length fronted.domains ≡ length b.domains + 1 + length a.inner
   nodes_of_back = omega (arith, nodes_of_front, length-append joined.domains (map domain_number a.inner), length-map a.inner domain_number)
 
-  inner_of_whole : length whole.inner ≡ length a.inner + length c.inner + 1
+  pub inner_of_whole : length whole.inner ≡ length a.inner + length c.inner + 1
   inner_of_whole = omega (arith, length_push (a.inner ++ c.inner) y, length-append a.inner c.inner)
 
-  nodes_of_placed : length placed.domains ≡ length b.domains + (length a.inner + length c.inner + 1)
+  pub nodes_of_placed : length placed.domains ≡ length b.domains + (length a.inner + length c.inner + 1)
   nodes_of_placed = omega (arith, length-append b.domains (map domain_number whole.inner), length-map whole.inner domain_number, inner_of_whole)
 
-  nodes_of_done : length done.domains ≡ length placed.domains
+  pub nodes_of_done : length done.domains ≡ length placed.domains
   nodes_of_done = omega (arith, nodes_of_back, nodes_of_placed, length-append fronted.domains (map domain_number c.inner), length-map c.inner domain_number)
 
-  domains_are : (n : ℕ) → n < length placed.domains → get_or done.domains (to n) 0 ≡ get_or placed.domains n 0
+  pub domains_are : (n : ℕ) → n < length placed.domains → get_or done.domains (to n) 0 ≡ get_or placed.domains n 0
   domains_are n l =
       let is = map domain_number a.inner in
       let js = map domain_number c.inner in
@@ -112,6 +112,30 @@ module _ (b : Netlist) (p q : ℕ) (x y u v : Domain) (a c : Plan) where
       ∙ ap (λ k. get_or (joined.domains ++ (is ++ js)) (before (length b.domains) k n) 0) (sym long)
       ∙ turned_at b.domains (is ++ js) (domain_number y) n (omega (arith, long, nodes_of_placed))
       ∙ ap (λ (zs : List ℕ). get_or (b.domains ++ zs) n 0) (sym inner)
+
+  -- how much there is
+  pub row_count : length whole.rows ≡ length a.rows + length c.rows
+  row_count = omega (arith, length-append (map (moved_row front) a.rows) (map (moved_row back) c.rows), length-map a.rows (moved_row front), length-map c.rows (moved_row back))
+
+  pub law_count : length whole.laws ≡ length a.laws + length c.laws
+  law_count = omega (arith, length-append (map (map (moved_term front)) a.laws) (map (map (moved_term back)) c.laws), length-map a.laws (map (moved_term front)), length-map c.laws (map (moved_term back)))
+
+  pub term_total : term_count whole.laws ≡ term_count a.laws + term_count c.laws
+  term_total = omega (arith, term_count_append (map (map (moved_term front)) a.laws) (map (map (moved_term back)) c.laws), term_count_map (moved_term front) a.laws, term_count_map (moved_term back) c.laws)
+
+  pub rows_of_fronted : length fronted.rows ≡ length b.rows + length a.rows
+  rows_of_fronted =
+      length-append b.rows (placed_rows joined (p ∷ length b.domains ∷ []) one) ∙ ap (λ n. length b.rows + n) (length-map a.rows (placed_row joined (p ∷ length b.domains ∷ [])))
+
+  pub laws_of_fronted : length fronted.laws ≡ length b.laws + length a.laws
+  laws_of_fronted =
+      length-append b.laws (map (map term_of) (placed_laws joined one))
+      ∙ ap (λ n. length b.laws + n) (length-map (placed_laws joined one) (map term_of) ∙ length-map a.laws (law_from b.variables))
+
+  pub terms_of_fronted : term_count fronted.laws ≡ term_count b.laws + term_count a.laws
+  terms_of_fronted =
+      term_count_append b.laws (map (map term_of) (placed_laws joined one))
+      ∙ ap (λ n. term_count b.laws + n) (term_count_map term_of (placed_laws joined one) ∙ term_count_map (counted_on b.variables) a.laws)
 
   module _ (sound : Sound b) (fits : Fits b p q x v whole) where
     pub few : length b.domains + (length a.inner + length c.inner + 1) ≤ 1000
@@ -270,16 +294,6 @@ module _ (b : Netlist) (p q : ℕ) (x y u v : Domain) (a c : Plan) where
         subst (AllByRecursion (LawPasses done.variables)) back_laws
         (laws_still (λ v. b.variables + moved_variable back v) c.variables placed.variables done.variables (λ v l. omega (arith, variable_number back v l)) c.laws back_of law_parts.1)
 
-    -- how much there is
-    row_count : length whole.rows ≡ length a.rows + length c.rows
-    row_count = omega (arith, length-append (map (moved_row front) a.rows) (map (moved_row back) c.rows), length-map a.rows (moved_row front), length-map c.rows (moved_row back))
-
-    law_count : length whole.laws ≡ length a.laws + length c.laws
-    law_count = omega (arith, length-append (map (map (moved_term front)) a.laws) (map (map (moved_term back)) c.laws), length-map a.laws (map (moved_term front)), length-map c.laws (map (moved_term back)))
-
-    term_total : term_count whole.laws ≡ term_count a.laws + term_count c.laws
-    term_total = omega (arith, term_count_append (map (map (moved_term front)) a.laws) (map (map (moved_term back)) c.laws), term_count_map (moved_term front) a.laws, term_count_map (moved_term back) c.laws)
-
     front_room : Room joined one
     front_room = record {
       nodes = omega (arith, nodes_of_front, few);
@@ -290,19 +304,13 @@ module _ (b : Netlist) (p q : ℕ) (x y u v : Domain) (a c : Plan) where
     }
 
     back_room : Room fronted other
-    back_room =
-        let rows : length fronted.rows ≡ length b.rows + length a.rows = length-append b.rows (placed_rows joined (p ∷ length b.domains ∷ []) one) ∙ ap (λ n. length b.rows + n) (length-map a.rows (placed_row joined (p ∷ length b.domains ∷ []))) in
-        let laws : length fronted.laws ≡ length b.laws + length a.laws =
-        length-append b.laws (map (map term_of) (placed_laws joined one)) ∙ ap (λ n. length b.laws + n) (length-map (placed_laws joined one) (map term_of) ∙ length-map a.laws (law_from b.variables)) in
-        let terms : term_count fronted.laws ≡ term_count b.laws + term_count a.laws =
-        term_count_append b.laws (map (map term_of) (placed_laws joined one)) ∙ ap (λ n. term_count b.laws + n) (term_count_map term_of (placed_laws joined one) ∙ term_count_map (counted_on b.variables) a.laws) in
-        record {
-          nodes = omega (arith, nodes_of_back, few);
-          variables = omega (arith, fits.room.variables);
-          rows = omega (arith, fits.room.rows, row_count, rows);
-          laws = omega (arith, fits.room.laws, law_count, laws);
-          terms = omega (arith, fits.room.terms, term_total, terms);
-        }
+    back_room = record {
+      nodes = omega (arith, nodes_of_back, few);
+      variables = omega (arith, fits.room.variables);
+      rows = omega (arith, fits.room.rows, row_count, rows_of_fronted);
+      laws = omega (arith, fits.room.laws, law_count, laws_of_fronted);
+      terms = omega (arith, fits.room.terms, term_total, terms_of_fronted);
+    }
 
     -- a node that is drawn keeps its domain where more are drawn
     still_there : (more : List ℕ) (node : ℕ) (end : Domain) → Seat b node end → (node < length (b.domains ++ more)) × (get_or (b.domains ++ more) node 0 ≡ domain_number end)
