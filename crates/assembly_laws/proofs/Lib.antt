@@ -8,8 +8,8 @@ pub mod Nodes
 pub mod Alike
 pub mod Fits
 pub mod Placing
-pub mod OneByOne
 pub mod Three
 pub mod Associative
 pub mod Either
 pub mod Together
+pub mod OneByOne

@@ -137,7 +137,7 @@ module _ (b : Netlist) (p q : ℕ) (x y u v : Domain) (a c : Plan) where
       term_count_append b.laws (map (map term_of) (placed_laws joined one))
       ∙ ap (λ n. term_count b.laws + n) (term_count_map term_of (placed_laws joined one) ∙ term_count_map (counted_on b.variables) a.laws)
 
-  module _ (sound : Sound b) (fits : Fits b p q x v whole) where
+  module _ (fits : Fits b p q x v whole) where
     pub few : length b.domains + (length a.inner + length c.inner + 1) ≤ 1000
     few = omega (arith, fits.room.nodes, inner_of_whole)
 
@@ -211,35 +211,6 @@ module _ (b : Netlist) (p q : ℕ) (x y u v : Domain) (a c : Plan) where
     back_laws : laws_as (λ v. b.variables + moved_variable back v) c.laws ≡ placed_laws fronted other
     back_laws =
         laws_same (λ v. b.variables + moved_variable back v) (λ v. b.variables + a.variables + v) c.variables (λ v l. omega (arith, variable_number back v l)) c.laws back_of
-
-    -- the netlists are the same but for the nodes' numbers
-    old : map (renamed_row (nodes_only to)) b.rows ≡ b.rows
-    old = rows_kept to b.domains (before_low (length b.domains) (length a.inner + length c.inner)) b.rows sound.joined
-
-    rows_same : map (renamed_row (nodes_only to)) placed.rows ≡ done.rows
-    rows_same =
-        map-append (renamed_row (nodes_only to)) b.rows (placed_rows b (p ∷ q ∷ []) whole)
-        ∙ (λ i. old i ++ map (renamed_row (nodes_only to)) (rows_are i))
-        ∙ ap (λ (rows : List (Row ℕ)). b.rows ++ rows) (map-append (renamed_row (nodes_only to)) (map (renamed_row (through b (p ∷ q ∷ []) front)) a.rows) (map (renamed_row (through b (p ∷ q ∷ []) back)) c.rows))
-        ∙ (λ i. b.rows ++ (front_rows i ++ back_rows i))
-        ∙ sym (append_assoc b.rows (placed_rows joined (p ∷ length b.domains ∷ []) one) (placed_rows fronted (length b.domains ∷ q ∷ []) other))
-
-    laws_same_as : placed.laws ≡ done.laws
-    laws_same_as =
-        ap (λ (laws : List (List PlanTerm)). b.laws ++ map (map term_of) laws) (laws_are ∙ (λ i. front_laws i ++ back_laws i))
-        ∙ ap (λ (laws : List (List Term)). b.laws ++ laws) (map-append (map term_of) (placed_laws joined one) (placed_laws fronted other))
-        ∙ sym (append_assoc b.laws (map (map term_of) (placed_laws joined one)) (map (map term_of) (placed_laws fronted other)))
-
-    pub same : SameButNodes to (behind (length b.domains) (length a.inner + length c.inner)) placed done
-    same = record {
-      back_to = behind_before (length b.domains) (length a.inner + length c.inner);
-      to_back = before_behind (length b.domains) (length a.inner + length c.inner);
-      count = nodes_of_done;
-      domains = domains_are;
-      variables = omega arith;
-      rows = sym rows_same;
-      laws = sym laws_same_as;
-    }
 
     -- the nodes of a part's rows have the same domains here
     kept_in : (es : List ℕ) (js : List ℕ) → es ++ js ≡ done.domains → (k : ℕ) → k < length placed.domains → to k < length es → Kept to placed.domains es k
@@ -342,3 +313,33 @@ module _ (b : Netlist) (p q : ℕ) (x y u v : Domain) (a c : Plan) where
           laws = laws_judged done.variables 0 (placed_laws fronted other) back_lawful;
           room = back_room;
         }
+
+    -- the netlists are the same but for the nodes' numbers
+    module _ (sound : Sound b) where
+      old : map (renamed_row (nodes_only to)) b.rows ≡ b.rows
+      old = rows_kept to b.domains (before_low (length b.domains) (length a.inner + length c.inner)) b.rows sound.joined
+
+      rows_same : map (renamed_row (nodes_only to)) placed.rows ≡ done.rows
+      rows_same =
+          map-append (renamed_row (nodes_only to)) b.rows (placed_rows b (p ∷ q ∷ []) whole)
+          ∙ (λ i. old i ++ map (renamed_row (nodes_only to)) (rows_are i))
+          ∙ ap (λ (rows : List (Row ℕ)). b.rows ++ rows) (map-append (renamed_row (nodes_only to)) (map (renamed_row (through b (p ∷ q ∷ []) front)) a.rows) (map (renamed_row (through b (p ∷ q ∷ []) back)) c.rows))
+          ∙ (λ i. b.rows ++ (front_rows i ++ back_rows i))
+          ∙ sym (append_assoc b.rows (placed_rows joined (p ∷ length b.domains ∷ []) one) (placed_rows fronted (length b.domains ∷ q ∷ []) other))
+
+      laws_same_as : placed.laws ≡ done.laws
+      laws_same_as =
+          ap (λ (laws : List (List PlanTerm)). b.laws ++ map (map term_of) laws) (laws_are ∙ (λ i. front_laws i ++ back_laws i))
+          ∙ ap (λ (laws : List (List Term)). b.laws ++ laws) (map-append (map term_of) (placed_laws joined one) (placed_laws fronted other))
+          ∙ sym (append_assoc b.laws (map (map term_of) (placed_laws joined one)) (map (map term_of) (placed_laws fronted other)))
+
+      pub same : SameButNodes to (behind (length b.domains) (length a.inner + length c.inner)) placed done
+      same = record {
+        back_to = behind_before (length b.domains) (length a.inner + length c.inner);
+        to_back = before_behind (length b.domains) (length a.inner + length c.inner);
+        count = nodes_of_done;
+        domains = domains_are;
+        variables = omega arith;
+        rows = sym rows_same;
+        laws = sym laws_same_as;
+      }

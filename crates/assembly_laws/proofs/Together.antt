@@ -1,17 +1,15 @@
 -- Parts that can be placed one by one, and the series of them. Assumes nothing.
-use Rattle.std.proofs.Common.{◌≡◌, ℕ, ◌+◌, ◌-◌, ◌<◌, ◌≤◌, true, List, [], ◌∷◌, ◌++◌, map, length, get_or, None, sym, refl, ap, ◌∙◌, subst, ⊎_elim, arith}
+use Rattle.std.proofs.Common.{◌≡◌, ℕ, ◌+◌, ◌<◌, true, List, [], ◌∷◌, ◌++◌, map, length, get_or, sym, refl, ap, ◌∙◌, subst, ⊎_elim, arith}
 use Rattle.std.specs.List.{AllByRecursion}
 use Rattle.std.proofs.lemmas.Bool.{cases_lt}
 use Rattle.std.proofs.lemmas.List.{append_assoc, append-nil, length-append, length-map, get_or_append_left, get_or_at}
 use Rattle.netlist.specs.declared.domains.Domain.{Domain}
-use Rattle.netlist.specs.declared.rows.Row.{Row}
 use Rattle.netlist.specs.Alike.{Renaming, renamed_row}
 use Rattle.netlist.specs.Domains.{domain_number}
 use Rattle.netlist.specs.Netlist.{Netlist}
 use Rattle.netlist.specs.Rows.{uses}
 use Rattle.assembly.specs.Meaning.{Plan, size_in, is_small}
 use Rattle.layers.proofs.Small.{small_from}
-use Rattle.layers.specs.Renumbered.{moved_node, moved_variable}
 use Rattle.place.specs.Moved.{moved_node as placed_node, moved_rows as placed_rows, moved_laws as placed_laws, widened}
 use Rattle.assembly_laws.specs.Turned.{behind}
 use Rattle.assembly_laws.specs.Renumbering.{nodes_only}
@@ -21,7 +19,7 @@ use Rattle.assembly_laws.proofs.Passing.{Names, Kept, RowKept, Passing, passing_
 use Rattle.assembly_laws.proofs.Renamed.{in_netlist, then, rows_placed, rows_twice, all_joined, all_weaker, all_mapped, all_map, map_same, row_same, row_named, row_kept}
 use Rattle.assembly_laws.proofs.Lawful.{LawPasses, Of, laws_as, laws_pass, laws_judged, laws_named, laws_same, laws_still}
 use Rattle.assembly_laws.proofs.Nodes.{inner_placed, Same, front_node, back_node}
-use Rattle.assembly_laws.proofs.Fits.{Seat, Room, Fits}
+use Rattle.assembly_laws.proofs.Fits.{Room, Fits}
 use Rattle.assembly_laws.proofs.Placing.{through, one, other, whole, front, back, joined, fronted, done, placed, to, rows_are, laws_are, nodes_of_front, nodes_of_back, inner_of_whole, nodes_of_placed, nodes_of_done, domains_are, row_count, law_count, term_total, rows_of_fronted, laws_of_fronted, terms_of_fronted}
 
 -- What a plan's rows and laws name, the plan has, where they pass on a netlist with its nodes and variables alone.
@@ -114,10 +112,11 @@ module _ (b : Netlist) (p q : ℕ) (x y u v : Domain) (a c : Plan) (pl : p < len
     -- a node here, as far as it has been drawn, is a node of the series with the same domain
     kept_back : (es js : List ℕ) → es ++ js ≡ D.domains → {there here : ℕ} {low : ℕ} → Same (to b p q x y u v a c) (length b.domains + (length a.inner + length c.inner + 1)) low there here → here < length es → Kept back_again es P.domains here
     kept_back es js e {there} {here} s l =
-        let within : there < length P.domains = omega (arith, s.drawn, nodes_of_placed b p q x y u v a c) in
-        (omega (arith, within, undone s),
-        ap (λ n. get_or P.domains n 0) (undone s) ∙ sym (domains_are b p q x y u v a c there within) ∙ ap (λ n. get_or D.domains n 0) s.is
-        ∙ sym (ap (λ (zs : List ℕ). get_or zs here 0) e) ∙ get_or_append_left es js 0 here l)
+        let within : there < length P.domains = omega (arith, s.drawn, nodes_of_placed b p q x y u v a c) in (
+          omega (arith, within, undone s),
+          ap (λ n. get_or P.domains n 0) (undone s) ∙ sym (domains_are b p q x y u v a c there within) ∙ ap (λ n. get_or D.domains n 0) s.is
+              ∙ sym (ap (λ (zs : List ℕ). get_or zs here 0) e) ∙ get_or_append_left es js 0 here l,
+        )
 
     front_kept : AllByRecursion (RowKept back_again F.domains P.domains P.variables) (placed_rows J (p ∷ length b.domains ∷ []) A)
     front_kept =

@@ -1,5 +1,5 @@
 -- A series that is placed, and its parts placed one by one. Assumes nothing.
-use Rattle.std.specs.Prelude.{◌≡◌, ℕ, ◌+◌, [], ◌∷◌, map, length, None, slice_index}
+use Rattle.std.specs.Prelude.{◌≡◌, ℕ, ◌+◌, ◌<◌, ◌↔◌, [], ◌∷◌, map, length, None, slice_index}
 use Rattle.netlist.specs.Alike.{Alike}
 use Rattle.netlist.specs.Domains.{domain_number}
 use Rattle.netlist.specs.Netlist.{Netlist, with_nodes}
@@ -37,15 +37,21 @@ joint_before b m n = before (length b.domains) (inner_count m + inner_count n)
 abbrev pub joint_behind : Netlist → Meaning → Meaning → ℕ → ℕ
 joint_behind b m n = behind (length b.domains) (inner_count m + inner_count n)
 
--- None of these calls is refused, and they draw what placing the series draws, but for the nodes' numbers.
-pub record PlacedOneByOne (b : Netlist) (m n : Meaning) (p q : ℕ) : Type 0 where
+-- None of these calls is refused.
+pub record FitOneByOne (b : Netlist) (m n : Meaning) (p q : ℕ) : Type 0 where
   pub joint : judge_node b (joint_domain m) ≡ None
   pub front : judge_place (with_joint b m) m (p ∷ length b.domains ∷ []) ≡ None
   pub back : judge_place (with_front b m p) n (length b.domains ∷ q ∷ []) ≡ None
-  pub same : SameButNodes (joint_before b m n) (joint_behind b m n) (with_assembly b (series m n) (p ∷ q ∷ [])) (with_both b m n p q)
-  pub alike : Alike (with_assembly b (series m n) (p ∷ q ∷ [])) (with_both b m n p q)
 
--- THEOREM: where a series is placed, its parts could be placed one by one, on a new node between them
-abbrev pub SeriesIsPlacedOneByOne : Type 0
-SeriesIsPlacedOneByOne =
-    (b : Netlist) → Sound b → (m n : Meaning) → Proper m → Proper n → (p q : ℕ) → judge_place b (series m n) (p ∷ q ∷ []) ≡ None → PlacedOneByOne b m n p q
+-- THEOREM: between two nodes that are drawn, a series fits exactly where its parts fit one by one
+abbrev pub SeriesFitsAsItsParts : Type 0
+SeriesFitsAsItsParts =
+    (b : Netlist) (m n : Meaning) → Proper m → Proper n → (p q : ℕ) → p < length b.domains → q < length b.domains →
+    ((judge_place b (series m n) (p ∷ q ∷ []) ≡ None) ↔ FitOneByOne b m n p q)
+
+-- THEOREM: and where it fits, both draw the same, but for the nodes' numbers; so the netlists are alike
+abbrev pub SeriesIsDrawnAsItsParts : Type 0
+SeriesIsDrawnAsItsParts =
+    (b : Netlist) → Sound b → (m n : Meaning) → Proper m → Proper n → (p q : ℕ) → judge_place b (series m n) (p ∷ q ∷ []) ≡ None →
+    SameButNodes (joint_before b m n) (joint_behind b m n) (with_assembly b (series m n) (p ∷ q ∷ [])) (with_both b m n p q)
+    × Alike (with_assembly b (series m n) (p ∷ q ∷ [])) (with_both b m n p q)

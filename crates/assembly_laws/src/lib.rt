@@ -3,7 +3,7 @@
 
 ghost use Rattle.assembly_laws.specs.Twice.{TwiceIsSeries};
 ghost use Rattle.assembly_laws.specs.Associative.{SeriesIsAssociative};
-ghost use Rattle.assembly_laws.specs.Placed.{SeriesIsPlacedOneByOne};
+ghost use Rattle.assembly_laws.specs.Placed.{SeriesFitsAsItsParts, SeriesIsDrawnAsItsParts};
 
 // Two copies of a part mean the part in series with itself.
 pub fn twice_is_series()
@@ -16,8 +16,13 @@ pub fn series_is_associative()
     ensures { SeriesIsAssociative }
 {}
 
-// Where a series is placed, its parts can be placed one by one on a new node between them, and the netlist
-// is the same but for the nodes' numbers.
-pub fn series_is_placed_one_by_one()
-    ensures { SeriesIsPlacedOneByOne }
+// Between two nodes of a netlist, a series is placed exactly where its parts can be placed one by one, on a
+// new node between them.
+pub fn series_fits_as_its_parts()
+    ensures { SeriesFitsAsItsParts }
+{}
+
+// And both draw the same, but for the nodes' numbers.
+pub fn series_is_drawn_as_its_parts()
+    ensures { SeriesIsDrawnAsItsParts }
 {}
