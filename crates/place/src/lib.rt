@@ -13,7 +13,6 @@ use drawing::draw;
 use ends::judge_ends;
 use netlist::refusals::Refusal;
 use plan_judging::judge_plan;
-use plan_judging::terms::term_count;
 use seats::Seat;
 use sheet::{Counts, Draft};
 
@@ -31,8 +30,8 @@ pub fn place<A: Assembly>(
 {
     let size = part.size().ok_or(Refusal::Void)?;
     judge_ends(draft, part, first, second)?;
-    judge_plan(part)?;
-    draft.judge_room(added(size), term_count(part))?;
+    let terms = judge_plan(part)?;
+    draft.judge_room(added(size), terms)?;
     let before = draft.counts();
     let seat = Seat {
         first,
