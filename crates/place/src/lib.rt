@@ -9,6 +9,7 @@ mod ends;
 mod seats;
 
 use assembly::Assembly;
+use assembly::plans::Size;
 use drawing::draw;
 use ends::judge_ends;
 use netlist::refusals::Refusal;
@@ -41,4 +42,16 @@ pub fn place<A: Assembly>(
     };
     draw(draft, part, size, seat);
     Ok(before)
+}
+
+// What a plan of this size adds.
+fn added(size: Size) -> Counts
+    ensures { result ≡ record { nodes = size.inner; variables = size.variables; rows = size.rows; laws = size.laws } }
+{
+    Counts {
+        nodes: size.inner,
+        variables: size.variables,
+        rows: size.rows,
+        laws: size.laws,
+    }
 }
