@@ -14,6 +14,7 @@ const FIRST: Argument = Argument::End { end: 0 };
 const SECOND: Argument = Argument::End { end: 1 };
 
 // Each node is drawn, and has the domain of its end. A void assembly has no ends.
+#[tactic(auto, using(crate::proofs::Plans::ends_told))]
 pub(crate) fn judge_ends<A: Assembly>(
     draft: &Draft,
     part: &A,
