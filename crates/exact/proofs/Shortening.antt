@@ -1,4 +1,4 @@
--- Walks made short: where a walk comes to a vertex again, what lies between is a closed walk and can be source out. Assumes nothing.
+-- Walks made short: where a walk comes to a vertex again, what lies between is a closed walk and can be left out. Assumes nothing.
 use Rattle.std.proofs.Common.{◌≡◌, ◌≢◌, ℕ, zero, suc, ◌<◌, ◌≤◌, true, false, List, [], ◌∷◌, ◌++◌, map, length, eqb, ◌⊎◌, inl, inr, sym, refl, ap, ◌∙◌, subst, ap₂, ⊎_elim, arith}
 use Rattle.std.specs.List.{AllByRecursion, IsDistinct, list_any}
 use Rattle.std.proofs.lemmas.Bool.{eqb-true, ne_eqb, cases_eq, or_cases}
