@@ -9,11 +9,11 @@ mod ends;
 mod seats;
 
 use assembly::Assembly;
+use assembly::plans::Size;
 use drawing::draw;
 use ends::judge_ends;
 use netlist::refusals::Refusal;
 use plan_judging::judge_plan;
-use plan_judging::terms::term_count;
 use seats::Seat;
 use sheet::{Counts, Draft};
 
@@ -31,8 +31,8 @@ pub fn place<A: Assembly>(
 {
     let size = part.size().ok_or(Refusal::Void)?;
     judge_ends(draft, part, first, second)?;
-    judge_plan(part)?;
-    draft.judge_room(added(size), term_count(part))?;
+    let terms = judge_plan(part)?;
+    draft.judge_room(added(size), terms)?;
     let before = draft.counts();
     let seat = Seat {
         first,
@@ -42,4 +42,16 @@ pub fn place<A: Assembly>(
     };
     draw(draft, part, size, seat);
     Ok(before)
+}
+
+// What a plan of this size adds.
+fn added(size: Size) -> Counts
+    ensures { result ≡ record { nodes = size.inner; variables = size.variables; rows = size.rows; laws = size.laws } }
+{
+    Counts {
+        nodes: size.inner,
+        variables: size.variables,
+        rows: size.rows,
+        laws: size.laws,
+    }
 }

@@ -1,6 +1,7 @@
 // The laws of a plan are judged in turn.
 ghost use Rattle.std.specs.Prelude.{◌≡◌, ◌≤◌, length};
-ghost use Rattle.judging.specs.Judging.{Tells};
+ghost use Rattle.netlist.specs.Netlist.{term_count};
+ghost use Rattle.judging.specs.Judging.{Accepts};
 ghost use Rattle.assembly.specs.Meaning.{Proper, laws_of};
 ghost use Rattle.plan_judging.specs.Alone.{judge_laws};
 
@@ -9,16 +10,17 @@ use assembly::Assembly;
 use judging::laws::accept_terms;
 use netlist::refusals::Refusal;
 
-// Judges each law over so many variables.
+// Judges each law over so many variables, and answers how many terms they have together.
 pub(crate) fn judge_laws<A: Assembly>(
     part: &A,
     laws: usize,
     variables: usize,
-) -> Result<(), Refusal>
+) -> Result<usize, Refusal>
     requires all { laws ≡ length (laws_of (A.Assembly.meaning part.now)) }
     requires proper { Proper (A.Assembly.meaning part.now) }
-    ensures { Tells (judge_laws variables 0 (laws_of (A.Assembly.meaning part.now))) result }
+    ensures { Accepts (judge_laws variables 0 (laws_of (A.Assembly.meaning part.now))) (λ terms. terms ≡ term_count (laws_of (A.Assembly.meaning part.now))) result }
 {
+    let mut terms = 0;
     for k in 0..laws {
         let law = LawTerms::of(part, k, 0);
         if let Err(why) = accept_terms(variables, law.as_slice()) {
@@ -27,6 +29,7 @@ pub(crate) fn judge_laws<A: Assembly>(
                 cause: why.number(),
             });
         }
+        terms += law.as_slice().len();
     }
-    Ok(())
+    Ok(terms)
 }

@@ -1,7 +1,10 @@
 // What would be refused of a plan wherever it is placed, told by the plan alone; and a plan's laws, term by term.
 #![tactic(auto)]
 
-ghost use Rattle.judging.specs.Judging.{Tells};
+ghost use Rattle.std.specs.Prelude.{◌≡◌};
+ghost use Rattle.netlist.specs.Netlist.{term_count};
+ghost use Rattle.judging.specs.Judging.{Accepts};
+ghost use Rattle.assembly.specs.Meaning.{laws_of};
 ghost use Rattle.plan_judging.specs.Alone.{judge_assembly};
 
 mod ground;
@@ -14,9 +17,10 @@ use assembly::plans::Size;
 use netlist::refusals::Refusal;
 
 // The first row, or else the first law, that would be refused on the plan's own nodes and variables with
-// the rows before it. Want of room does not count.
-pub fn judge_plan<A: Assembly>(part: &A) -> Result<(), Refusal>
-    ensures { Tells (judge_assembly (A.Assembly.meaning part.now)) result }
+// the rows before it. Want of room does not count. Where nothing is refused, it answers how many terms the
+// laws have together.
+pub fn judge_plan<A: Assembly>(part: &A) -> Result<usize, Refusal>
+    ensures { Accepts (judge_assembly (A.Assembly.meaning part.now)) (λ terms. terms ≡ term_count (laws_of (A.Assembly.meaning part.now))) result }
 {
     let size = part.size().ok_or(Refusal::Void)?;
     let mut flags = [false; Size::MOST];

@@ -1,7 +1,6 @@
 // The rows of a plan are judged in turn.
-ghost use Rattle.std.specs.Prelude.{◌≡◌, ◌≤◌, Bool, [], List, length, map, replicate, false};
+ghost use Rattle.std.specs.Prelude.{◌≡◌, ◌≤◌, [], length, map};
 ghost use Rattle.netlist.specs.Domains.{domain_number};
-ghost use Rattle.netlist.specs.Netlist.{Netlist};
 ghost use Rattle.judging.specs.Judging.{Tells};
 ghost use Rattle.assembly.specs.Meaning.{domains_of, rows_of};
 ghost use Rattle.plan_judging.specs.Alone.{judge_rows};
@@ -12,7 +11,7 @@ use judging::rows::judge_row;
 use netlist::refusals::Refusal;
 use netlist::rows::Row;
 
-// Judges each row with those before it drawn. `taken` has a flag for each variable, all down at first.
+// Judges each row with those before it drawn. `taken` is lent, and has a flag for each variable.
 pub(crate) fn judge_rows<A: Assembly>(
     part: &A,
     rows: usize,
@@ -20,9 +19,9 @@ pub(crate) fn judge_rows<A: Assembly>(
 ) -> Result<(), Refusal>
     requires all { rows ≡ length (rows_of (A.Assembly.meaning part.now)) }
     requires few { rows ≤ 6000 }
-    requires free { taken.old ≡ replicate (length taken.old) false }
     ensures { Tells (judge_rows (record { domains = map domain_number (domains_of (A.Assembly.meaning part.now)); variables = length taken.old; rows = []; laws = [] }) 0 (rows_of (A.Assembly.meaning part.now))) result }
 {
+    taken.fill(false);
     for k in 0..rows {
         let row = Row::from(part.row(k).unwrap());
         let ground = PlanGround { part, taken };

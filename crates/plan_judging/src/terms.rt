@@ -1,8 +1,4 @@
 // The terms of one law of a plan, gathered.
-ghost use Rattle.std.specs.Prelude.{◌≡◌};
-ghost use Rattle.netlist.specs.Netlist.{term_count};
-ghost use Rattle.assembly.specs.Meaning.{laws_of};
-
 use assembly::Assembly;
 use netlist::terms::{MOST_TERMS, RawTerm};
 use std::marker::Model;
@@ -52,17 +48,10 @@ impl LawTerms {
         }
     }
 
+    // The terms in their order.
     pub fn as_slice(&self) -> &[RawTerm]
         ensures { result.now ≡ self.now }
     {
         &self.terms[..self.count]
     }
-}
-
-// How many terms the laws of a plan have together.
-pub fn term_count<A: Assembly>(part: &A) -> usize
-    ensures { result ≡ term_count (laws_of (A.Assembly.meaning part.now)) }
-{
-    let laws = part.size().map_or(0, |size| size.laws);
-    (0..laws).filter_map(|k| part.law_len(k)).sum()
 }
