@@ -7,10 +7,10 @@ use Rattle.netlist.specs.Netlist.{Netlist}
 use Rattle.assembly.specs.declared.plans.Size.{Size}
 use Rattle.layers.specs.Renumbered.{moved_node}
 use Rattle.series.specs.Series.{front_place, back_place}
-use Rattle.place.specs.Moved.{moved_node as placed_node}
 use Rattle.assembly_laws.specs.Turned.{before}
 use Rattle.assembly_laws.proofs.Turned.{before_low, before_last, before_rest}
 use Rattle.assembly_laws.proofs.Numbers.{by_node}
+use Rattle.assembly_laws.proofs.Renamed.{placed_node}
 
 -- One that stands behind others, or before them: what stands where.
 pub turned_at : (ds ks : List ℕ) (y k : ℕ) → k ≤ length ds + length ks → get_or ((ds ++ y ∷ []) ++ ks) (before (length ds) (length ks) k) 0 ≡ get_or (ds ++ (ks ++ y ∷ [])) k 0

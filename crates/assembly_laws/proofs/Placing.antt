@@ -17,14 +17,14 @@ use Rattle.layers.specs.declared.renumbering.Renumbering.{Renumbering}
 use Rattle.layers.specs.Renumbered.{absent, moved_node, moved_variable, moved_row, moved_term}
 use Rattle.series.specs.Series.{in_series, front_place, back_place}
 use Rattle.plan_judging.specs.Terms.{counted_on, law_from}
-use Rattle.place.specs.Moved.{moved_node as placed_node, moved_row as placed_row, moved_rows as placed_rows, moved_laws as placed_laws, widened, with_plan}
+use Rattle.place.specs.Moved.{moved_rows as placed_rows, moved_laws as placed_laws, widened, with_plan}
 use Rattle.assembly_laws.specs.Turned.{before, behind}
 use Rattle.assembly_laws.specs.Renumbering.{nodes_only, SameButNodes}
 use Rattle.assembly_laws.proofs.Turned.{before_low, behind_before, before_behind}
 use Rattle.assembly_laws.proofs.Alike.{rows_kept}
 use Rattle.assembly_laws.proofs.Numbers.{node_there, variable_there, variable_number}
 use Rattle.assembly_laws.proofs.Passing.{Names, Kept, RowKept, Passing, passing_from, passing_parts, passing_names, passing_still, passing_judged, uses_kept, uses_append}
-use Rattle.assembly_laws.proofs.Renamed.{in_layer, in_netlist, then, rows_moved, rows_placed, rows_twice, all_parts, all_weaker, all_mapped, all_map, map_same, row_same, row_named, row_kept}
+use Rattle.assembly_laws.proofs.Renamed.{placed_node, placed_row, in_layer, in_netlist, then, rows_moved, rows_placed, rows_twice, all_parts, all_weaker, all_mapped, all_map, map_same, row_same, row_named, row_kept}
 use Rattle.assembly_laws.proofs.Lawful.{LawPasses, Of, laws_as, laws_twice, laws_pass, laws_judged, laws_named, laws_same, laws_still}
 use Rattle.assembly_laws.proofs.Nodes.{turned_at, inner_placed, Same, front_node, back_node}
 use Rattle.assembly_laws.proofs.Fits.{Seat, Room, Fits, term_count_append, term_count_map}

@@ -1,5 +1,5 @@
 -- Rows and laws in other numbers, and what it takes for two renamings to agree on them. Assumes nothing.
-use Rattle.std.proofs.Common.{◌≡◌, ℕ, ◌<◌, List, [], ◌∷◌, ◌++◌, map, refl}
+use Rattle.std.proofs.Common.{length, ◌+◌, ◌≡◌, ℕ, ◌<◌, List, [], ◌∷◌, ◌++◌, map, refl}
 use Rattle.std.specs.List.{AllByRecursion}
 use Rattle.netlist.specs.declared.rows.Row.{Row}
 use Rattle.netlist.specs.declared.rows.Row.TheVariants.{Branch, Earth}
@@ -8,15 +8,22 @@ use Rattle.netlist.specs.Netlist.{Netlist}
 use Rattle.assembly.specs.Plans.{PlanRow}
 use Rattle.layers.specs.declared.renumbering.Renumbering.{Renumbering}
 use Rattle.layers.specs.Renumbered.{moved_node, moved_variable, moved_row}
-use Rattle.place.specs.Moved.{moved_node as placed_node, moved_variable as placed_variable, moved_row as placed_row}
+use Rattle.place.specs.Moved.{moved_node as seated_node, moved_row as seated_row}
 use Rattle.assembly_laws.proofs.Passing.{Names, Kept, RowKept}
+
+-- where a plan that is placed goes on a netlist: behind all that it has
+abbrev pub placed_node : Netlist → List ℕ → ℕ → ℕ
+placed_node b given n = seated_node (length b.domains) given n
+
+abbrev pub placed_row : Netlist → List ℕ → Row ℕ → Row ℕ
+placed_row b given row = seated_row (length b.domains) b.variables given row
 
 -- from a part to its layer, and from a plan to the netlist
 abbrev pub in_layer : Renumbering → Renaming
 in_layer r = record { node = moved_node r; variable = moved_variable r }
 
 abbrev pub in_netlist : Netlist → List ℕ → Renaming
-in_netlist b given = record { node = placed_node b given; variable = placed_variable b }
+in_netlist b given = record { node = placed_node b given; variable = λ v. b.variables + v }
 
 abbrev pub then : Renaming → Renaming → Renaming
 then f g = record { node = λ n. g.node (f.node n); variable = λ v. g.variable (f.variable v) }

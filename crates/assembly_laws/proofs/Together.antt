@@ -10,13 +10,13 @@ use Rattle.netlist.specs.Netlist.{Netlist}
 use Rattle.netlist.specs.Rows.{uses}
 use Rattle.assembly.specs.Meaning.{Plan, size_in, is_small}
 use Rattle.layers.proofs.Small.{small_from}
-use Rattle.place.specs.Moved.{moved_node as placed_node, moved_rows as placed_rows, moved_laws as placed_laws, widened}
+use Rattle.place.specs.Moved.{moved_rows as placed_rows, moved_laws as placed_laws, widened}
 use Rattle.assembly_laws.specs.Turned.{behind}
 use Rattle.assembly_laws.specs.Renumbering.{nodes_only}
 use Rattle.assembly_laws.proofs.Turned.{behind_before}
 use Rattle.assembly_laws.proofs.Numbers.{variable_number}
 use Rattle.assembly_laws.proofs.Passing.{Names, Kept, RowKept, Passing, passing_from, passing_joined, passing_names, passing_still, passing_judged, uses_kept, uses_append}
-use Rattle.assembly_laws.proofs.Renamed.{in_netlist, then, rows_placed, rows_twice, all_joined, all_weaker, all_mapped, all_map, map_same, row_same, row_named, row_kept}
+use Rattle.assembly_laws.proofs.Renamed.{placed_node, in_netlist, then, rows_placed, rows_twice, all_joined, all_weaker, all_mapped, all_map, map_same, row_same, row_named, row_kept}
 use Rattle.assembly_laws.proofs.Lawful.{LawPasses, Of, laws_as, laws_pass, laws_judged, laws_named, laws_same, laws_still}
 use Rattle.assembly_laws.proofs.Nodes.{inner_placed, Same, front_node, back_node}
 use Rattle.assembly_laws.proofs.Fits.{Room, Fits}
