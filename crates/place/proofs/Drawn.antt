@@ -2,7 +2,6 @@
 use Rattle.std.proofs.Common.{◌≡◌, ℕ, zero, suc, ◌+◌, ◌<◌, ◌≤◌, List, [], ◌∷◌, ◌++◌, map, length, take, Some, None, Option, sym, refl, ap, ◌∙◌, arith}
 use Rattle.std.specs.List.{slice_get}
 use Rattle.std.specs.Option.{option_map, option_or}
-use Rattle.std.specs.Result.{IsOk, is_ok}
 use Rattle.std.proofs.lemmas.Bool.{cond-false, lt-leb}
 use Rattle.std.proofs.lemmas.List.{append-nil, append_assoc, map_push, length-append, length-map, length-take-le, take-map}
 use Rattle.std.proofs.lemmas.Option.{slice_get_within, slice_get-map}
@@ -99,5 +98,5 @@ module _ (b : Netlist) (f : List (RawTerm ℕ) → List (RawTerm ℕ)) (same : (
   pub law_more : with_laws (with_laws b (map f (take k xs))) (f x ∷ []) ≡ with_laws b (map f (take (k + 1) xs))
   law_more =
       let laws = append_assoc b.laws new (map term_of (f x) ∷ [])
-          ∙ ap (λ (ls : List (List Term)). b.laws ++ ls) (sym (ap (λ (ls : List (List (RawTerm ℕ))). map (map term_of) (map f ls)) (take_place xs k x at) ∙ ap (map (map term_of)) (map_push f (take k xs) x) ∙ map_push (map term_of) (map f (take k xs)) (f x))) in
+      ∙ ap (λ (ls : List (List Term)). b.laws ++ ls) (sym (ap (λ (ls : List (List (RawTerm ℕ))). map (map term_of) (map f ls)) (take_place xs k x at) ∙ ap (map (map term_of)) (map_push f (take k xs) x) ∙ map_push (map term_of) (map f (take k xs)) (f x))) in
       λ i. record { domains = b.domains; variables = b.variables; rows = b.rows; laws = laws i }

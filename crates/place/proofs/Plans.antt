@@ -1,10 +1,10 @@
 -- What an assembly tells of its plan. Assumes nothing.
-use Rattle.std.proofs.Common.{◌≡◌, ℕ, ◌+◌, ◌-◌, List, [], ◌∷◌, ◌++◌, length, Some, Option, refl, ap, ◌∙◌, arith}
+use Rattle.std.proofs.Common.{◌≡◌, ℕ, ◌+◌, List, [], ◌∷◌, ◌++◌, length, Some, refl, ap, ◌∙◌, arith}
 use Rattle.std.specs.List.{slice_get}
 use Rattle.netlist.specs.declared.domains.Domain.{Domain}
 use Rattle.netlist.specs.Netlist.{Netlist}
 use Rattle.netlist.specs.Rules.{first_of}
-use Rattle.assembly.specs.Meaning.{Meaning, void, plan, Proper, domains_of, rows_of, laws_of}
+use Rattle.assembly.specs.Meaning.{Meaning, void, plan, Proper, domains_of}
 use Rattle.assembly.proofs.Nth.{nth_append_right}
 use Rattle.place.specs.Parts.{plan_of, judge_void_ends, two_tests}
 use Rattle.place.specs.Place.{node_tests, end_tests}

@@ -1,12 +1,14 @@
 -- The plan of an assembly, and an empty one of a void assembly. Assumes nothing.
-use Rattle.std.specs.Prelude.{ℕ, not, List, [], ◌∷◌, Some, Option, ◌==◌}
+use Rattle.std.specs.Prelude.{ℕ, not, List, [], ◌∷◌, ◌++◌, Some, Option, ◌==◌}
 use Rattle.netlist.specs.declared.domains.Domain.{Domain}
+use Rattle.netlist.specs.declared.refusals.Argument.{Argument}
 use Rattle.netlist.specs.declared.refusals.Argument.TheVariants.{End}
 use Rattle.netlist.specs.declared.refusals.Refusal.{Refusal}
-use Rattle.netlist.specs.declared.refusals.Refusal.TheVariants.{NoNode, Domain as DomainDiffers, Void}
+use Rattle.netlist.specs.declared.refusals.Refusal.TheVariants.{Domain as DomainDiffers, Void}
 use Rattle.netlist.specs.Domains.{domain_number}
 use Rattle.netlist.specs.Netlist.{Netlist}
-use Rattle.netlist.specs.Rules.{Tests, no_node, domain_of}
+use Rattle.netlist.specs.Rules.{Tests, domain_of}
+use Rattle.judging.specs.Judging.{node_tests}
 use Rattle.assembly.specs.Meaning.{Meaning, void, plan, Plan}
 use Rattle.place.specs.Place.{judge_ends}
 
@@ -19,11 +21,12 @@ abbrev pub judge_void_ends : Netlist → List ℕ → Meaning → Option Refusal
 judge_void_ends b given void = Some Void
 judge_void_ends b given (plan p) = judge_ends b given p
 
+-- whether a node of domain n has the domain of the end placed at it
+abbrev pub domain_tests : ℕ → Domain → Argument → Tests
+domain_tests n end argument = (not (n == domain_number end), DomainDiffers argument) ∷ []
+
 -- the tests of two nodes at ends of these domains
 abbrev pub two_tests : List ℕ → ℕ → ℕ → Domain → Domain → Tests
 two_tests domains first second d e =
-    (no_node domains first, NoNode (End 0))
-    ∷ (no_node domains second, NoNode (End 1))
-    ∷ (not (domain_of domains first == domain_number d), DomainDiffers (End 0))
-    ∷ (not (domain_of domains second == domain_number e), DomainDiffers (End 1))
-    ∷ []
+    (node_tests domains first (End 0) ++ node_tests domains second (End 1))
+    ++ (domain_tests (domain_of domains first) d (End 0) ++ domain_tests (domain_of domains second) e (End 1))

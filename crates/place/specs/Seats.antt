@@ -3,7 +3,7 @@ use Rattle.std.specs.Prelude.{◌≡◌, ℕ, List, [], ◌∷◌, length}
 use Rattle.netlist.specs.declared.rows.Row.{Row}
 use Rattle.netlist.specs.Netlist.{Netlist}
 use Rattle.place.specs.declared.seats.Seat.{Seat}
-use Rattle.place.specs.Moved.{moved_node, moved_row}
+use Rattle.place.specs.Moved.{moved_row}
 
 -- the nodes given for the ends
 abbrev pub given : Seat → List ℕ

@@ -29,11 +29,13 @@ pub fn place<A: Assembly>(
     ensures answer { result ≡ answer_place draft.old (A.Assembly.meaning part.now) (first ∷ second ∷ []) }
     ensures netlist { draft.new ≡ after_place draft.old (A.Assembly.meaning part.now) (first ∷ second ∷ []) }
 {
-    let size = part.size().ok_or(Refusal::Void)?;
+    let before = draft.counts();
+    let Some(size) = part.size() else {
+        return Err(Refusal::Void);
+    };
     judge_ends(draft, part, first, second)?;
     let terms = judge_plan(part)?;
     draft.judge_room(added(size), terms)?;
-    let before = draft.counts();
     let seat = Seat {
         first,
         second,
