@@ -11,7 +11,7 @@ use Rattle.netlist.specs.declared.terms.Term.{Term}
 use Rattle.netlist.specs.Alike.{Alike, renamed_row, renamed_law, nodes_in, variables_in}
 use Rattle.netlist.specs.Netlist.{Netlist}
 use Rattle.netlist.specs.Sound.{every, joins}
-use Rattle.assembly_laws.specs.Renumbering.{nodes_only, SameButNodes}
+use Rattle.assembly_laws.specs.ButNodes.{nodes_only, SameButNodes}
 
 all_of : {X : Type 0} (P : X → Type 0) → ((x : X) → P x) → (xs : List X) → AllByRecursion P xs
 all_of P f [] = tt

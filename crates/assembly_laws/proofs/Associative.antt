@@ -1,21 +1,18 @@
 -- Three parts in series, taken together in two ways. Assumes nothing.
-use Rattle.std.proofs.Common.{◌≡◌, ℕ, suc, ◌+◌, ◌-◌, ◌≤◌, true, List, [], ◌∷◌, ◌++◌, map, length, Option, sym, refl, ap, ◌∙◌, ⊎_elim, arith}
+use Rattle.std.proofs.Common.{◌≡◌, ℕ, ◌+◌, ◌≤◌, true, List, [], ◌∷◌, ◌++◌, map, length, sym, refl, ap, ◌∙◌, arith}
 use Rattle.std.specs.List.{slice_get}
-use Rattle.std.proofs.lemmas.Bool.{cases_lt, cases_eq}
-use Rattle.std.proofs.lemmas.List.{append_assoc, map-append, length-append, length_push}
-use Rattle.std.proofs.lemmas.Option.{slice_get_past}
+use Rattle.std.proofs.lemmas.List.{append-nil, append_assoc, map-append, length-append, length_push}
 use Rattle.netlist.specs.declared.domains.Domain.{Domain}
 use Rattle.netlist.specs.Alike.{Renaming, renamed_row}
 use Rattle.assembly.specs.Plans.{PlanRow, PlanTerm}
 use Rattle.assembly.specs.Meaning.{Plan, size_in, is_small}
-use Rattle.assembly.proofs.Nth.{nth_append_left, nth_append_right}
 use Rattle.layers.proofs.Small.{small_bounds}
 use Rattle.layers.specs.declared.renumbering.Renumbering.{Renumbering}
 use Rattle.layers.specs.Renumbered.{moved_variable, moved_row, moved_term}
 use Rattle.series.specs.Series.{in_series, front_place, back_place}
-use Rattle.assembly_laws.specs.Turned.{before, behind}
-use Rattle.assembly_laws.specs.Renumbering.{nodes_only, PlanButNodes}
-use Rattle.assembly_laws.proofs.Turned.{behind_low, behind_high, behind_first, behind_rest, behind_before, before_behind}
+use Rattle.assembly_laws.specs.ButNodes.{nodes_only, PlanButNodes}
+use Rattle.assembly_laws.proofs.Swapped.{swapped_get}
+use Rattle.assembly_laws.proofs.Turned.{before, behind, behind_low, behind_before, before_behind}
 use Rattle.assembly_laws.proofs.Renamed.{in_layer, then, rows_moved, rows_twice}
 use Rattle.assembly_laws.proofs.Lawful.{laws_as, laws_twice}
 use Rattle.assembly_laws.proofs.Placing.{with_ends}
@@ -23,32 +20,7 @@ use Rattle.assembly_laws.proofs.Three.{first_node, second_node, third_node, firs
 
 -- One that stands before others, or behind them: what stands where.
 turned_get : {X : Type 0} (ds ks : List X) (y : X) (n : ℕ) → slice_get (ds ++ (ks ++ y ∷ [])) (behind (length ds) (length ks) n) ≡ slice_get (ds ++ (y ∷ ks)) n
-turned_get {X} ds ks y n =
-    let at : ℕ → Option X = slice_get (ds ++ (ks ++ y ∷ [])) in
-    let long = length-append ds (ks ++ y ∷ []) in
-    let long2 = length-append ds (y ∷ ks) in
-    let push = length_push ks y in
-    ⊎_elim
-    (λ low. ap at (behind_low (length ds) (length ks) n low) ∙ nth_append_left ds (ks ++ y ∷ []) n low ∙ sym (nth_append_left ds (y ∷ ks) n low))
-    (λ above. ⊎_elim
-    (λ high. ap at (behind_high (length ds) (length ks) n high) ∙ slice_get_past (ds ++ (ks ++ y ∷ [])) n (omega arith) ∙ sym (slice_get_past (ds ++ (y ∷ ks)) n (omega arith)))
-    (λ within. ⊎_elim
-    (λ (e : n ≡ length ds).
-    let first : n - length ds ≡ 0 = omega arith in
-    let last : length ds + length ks - length ds ≡ length ks = omega arith in
-    let none : length ks - length ks ≡ 0 = omega arith in
-    ap at (ap (behind (length ds) (length ks)) e ∙ behind_first (length ds) (length ks))
-    ∙ nth_append_right ds (ks ++ y ∷ []) (length ds + length ks) (omega arith) ∙ ap (slice_get (ks ++ y ∷ [])) last
-    ∙ nth_append_right ks (y ∷ []) (length ks) (omega arith) ∙ ap (slice_get (y ∷ [])) none
-    ∙ sym (nth_append_right ds (y ∷ ks) n above ∙ ap (slice_get (y ∷ ks)) first))
-    (λ apart.
-    let on : n - length ds ≡ suc (n - 1 - length ds) = omega arith in
-    ap at (behind_rest (length ds) (length ks) n (omega arith) within)
-    ∙ nth_append_right ds (ks ++ y ∷ []) (n - 1) (omega arith) ∙ nth_append_left ks (y ∷ []) (n - 1 - length ds) (omega arith)
-    ∙ sym (nth_append_right ds (y ∷ ks) n above ∙ ap (slice_get (y ∷ ks)) on))
-    (cases_eq n (length ds)))
-    (cases_lt (length ds + length ks) n))
-    (cases_lt n (length ds))
+turned_get {X} ds ks y n = swapped_get ds (y ∷ []) ks [] n ∙ ap (λ (zs : List X). slice_get (ds ++ (y ∷ zs)) n) (append-nil ks)
 
 -- Rows and laws that are moved twice.
 module _ (r q : Renumbering) where
@@ -62,10 +34,10 @@ module _ (r q : Renumbering) where
   laws_both laws = laws_twice (moved_variable r) (moved_variable q) laws
 
 -- renamings that agree everywhere
-rows_agree : (f g : Renaming) → ((k : ℕ) → f.node k ≡ g.node k) → ((v : ℕ) → f.variable v ≡ g.variable v) → (rows : List PlanRow) → map (renamed_row f) rows ≡ map (renamed_row g) rows
+pub rows_agree : (f g : Renaming) → ((k : ℕ) → f.node k ≡ g.node k) → ((v : ℕ) → f.variable v ≡ g.variable v) → (rows : List PlanRow) → map (renamed_row f) rows ≡ map (renamed_row g) rows
 rows_agree f g node variable rows = (λ i. map (renamed_row (record { node = λ k. node k i; variable = λ v. variable v i })) rows)
 
-laws_agree : (f g : ℕ → ℕ) → ((v : ℕ) → f v ≡ g v) → (laws : List (List PlanTerm)) → laws_as f laws ≡ laws_as g laws
+pub laws_agree : (f g : ℕ → ℕ) → ((v : ℕ) → f v ≡ g v) → (laws : List (List PlanTerm)) → laws_as f laws ≡ laws_as g laws
 laws_agree f g e laws = (λ i. laws_as (λ v. e v i) laws)
 
 module _ (x y u v s t : Domain) (a b c : Plan) where

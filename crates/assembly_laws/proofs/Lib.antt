@@ -1,3 +1,4 @@
+pub mod Swapped
 pub mod Turned
 pub mod Numbers
 pub mod Twice
@@ -9,7 +10,9 @@ pub mod Alike
 pub mod Fits
 pub mod Placing
 pub mod Three
+pub mod CopyNumbers
 pub mod Associative
-pub mod Either
+pub mod EitherWay
 pub mod Together
 pub mod OneByOne
+pub mod More

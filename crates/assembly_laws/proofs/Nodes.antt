@@ -1,38 +1,25 @@
 -- The nodes of two parts between p and q: in a series that is placed, and where they are placed one by one on
 -- a joint that is drawn before them. Assumes nothing.
-use Rattle.std.proofs.Common.{◌≡◌, ℕ, suc, ◌+◌, ◌-◌, ◌<◌, ◌≤◌, List, [], ◌∷◌, ◌++◌, length, get_or, sym, refl, ap, ◌∙◌, ⊎_elim, arith}
-use Rattle.std.proofs.lemmas.Bool.{cases_lt, cases_eq, cond-false, le-ltb}
-use Rattle.std.proofs.lemmas.List.{append_assoc, length-append, length_push, get_or_append_left, get_or-append_right, get_or_at}
+use Rattle.std.proofs.Common.{Option, unwrap_or, ◌≡◌, ℕ, suc, ◌+◌, ◌-◌, ◌<◌, ◌≤◌, List, [], ◌∷◌, ◌++◌, length, get_or, sym, ap, ◌∙◌, arith}
+use Rattle.std.proofs.lemmas.Bool.{cond-false, le-ltb}
+use Rattle.std.proofs.lemmas.List.{append_assoc, append-nil}
+use Rattle.std.proofs.lemmas.Option.{unwrap_or-slice_get}
 use Rattle.netlist.specs.Netlist.{Netlist}
 use Rattle.assembly.specs.declared.plans.Size.{Size}
 use Rattle.layers.specs.Renumbered.{moved_node}
 use Rattle.series.specs.Series.{front_place, back_place}
-use Rattle.assembly_laws.specs.Turned.{before}
-use Rattle.assembly_laws.proofs.Turned.{before_low, before_last, before_rest}
+use Rattle.assembly_laws.proofs.Swapped.{swapped_get}
+use Rattle.assembly_laws.proofs.Turned.{before, before_low, before_last, before_rest}
 use Rattle.assembly_laws.proofs.Numbers.{by_node}
 use Rattle.assembly_laws.proofs.Renamed.{placed_node}
 
 -- One that stands behind others, or before them: what stands where.
-pub turned_at : (ds ks : List ℕ) (y k : ℕ) → k ≤ length ds + length ks → get_or ((ds ++ y ∷ []) ++ ks) (before (length ds) (length ks) k) 0 ≡ get_or (ds ++ (ks ++ y ∷ [])) k 0
-turned_at ds ks y k l =
-    let to = before (length ds) (length ks) in
-    let push = length_push ds y in
-    ⊎_elim
-    (λ (low : k < length ds).
-    ap (λ i. get_or ((ds ++ y ∷ []) ++ ks) i 0) (before_low (length ds) (length ks) k low)
-    ∙ get_or_append_left (ds ++ y ∷ []) ks 0 k (omega arith) ∙ get_or_append_left ds (y ∷ []) 0 k low ∙ sym (get_or_append_left ds (ks ++ y ∷ []) 0 k low))
-    (λ above. ⊎_elim
-    (λ (e : k ≡ length ds + length ks).
-    ap (λ i. get_or ((ds ++ y ∷ []) ++ ks) i 0) (ap to e ∙ before_last (length ds) (length ks))
-    ∙ get_or_append_left (ds ++ y ∷ []) ks 0 (length ds) (omega arith) ∙ get_or_at ds y [] 0 (length ds) refl
-    ∙ sym (ap (λ (zs : List ℕ). get_or zs k 0) (sym (append_assoc ds ks (y ∷ []))) ∙ get_or_at (ds ++ ks) y [] 0 k (length-append ds ks ∙ sym e)))
-    (λ apart.
-    let at : k + 1 - (length ds + 1) ≡ k - length ds = omega arith in
-    ap (λ i. get_or ((ds ++ y ∷ []) ++ ks) i 0) (before_rest (length ds) (length ks) k above (omega arith))
-    ∙ get_or-append_right (ds ++ y ∷ []) ks (length ds + 1) (k + 1) 0 push (omega arith) ∙ ap (λ i. get_or ks i 0) at
-    ∙ sym (get_or-append_right ds (ks ++ y ∷ []) (length ds) k 0 refl above ∙ get_or_append_left ks (y ∷ []) 0 (k - length ds) (omega arith)))
-    (cases_eq k (length ds + length ks)))
-    (cases_lt k (length ds))
+pub turned_at : (ds ks : List ℕ) (y k : ℕ) → get_or ((ds ++ y ∷ []) ++ ks) (before (length ds) (length ks) k) 0 ≡ get_or (ds ++ (ks ++ y ∷ [])) k 0
+turned_at ds ks y k =
+    let here = before (length ds) (length ks) k in
+    let there : (ds ++ y ∷ []) ++ ks ≡ ds ++ (y ∷ (ks ++ [])) = append_assoc ds (y ∷ []) ks ∙ ap (λ (zs : List ℕ). ds ++ (y ∷ zs)) (sym (append-nil ks)) in
+    ap (λ (zs : List ℕ). get_or zs here 0) there ∙ sym (unwrap_or-slice_get (ds ++ (y ∷ (ks ++ []))) here 0)
+    ∙ ap (λ (o : Option ℕ). unwrap_or o 0) (swapped_get ds ks (y ∷ []) [] k) ∙ unwrap_or-slice_get (ds ++ (ks ++ y ∷ [])) k 0
 
 pub inner_placed : (b : Netlist) (x y n : ℕ) → 2 ≤ n → placed_node b (x ∷ y ∷ []) n ≡ length b.domains + (n - 2)
 inner_placed b x y n l = cond-false _ _ _ (le-ltb n 2 l)

@@ -1,5 +1,5 @@
 -- The layer's number of each node and each variable of a part, case by case. Assumes nothing.
-use Rattle.std.proofs.Common.{◌≡◌, ℕ, zero, suc, ◌+◌, ◌<◌, ◌≤◌, sym, subst, ⊎_elim, arith}
+use Rattle.std.proofs.Common.{◌-◌, ap, ◌∙◌, ◌≡◌, ℕ, zero, suc, ◌+◌, ◌<◌, ◌≤◌, sym, subst, ⊎_elim, arith}
 use Rattle.std.proofs.lemmas.Bool.{cases_lt}
 use Rattle.std.proofs.lemmas.List.{get_or_past}
 use Rattle.std.proofs.lemmas.List.FromFn.{length-range_with_len, get_or-range_with_len}
@@ -9,6 +9,12 @@ use Rattle.layers.specs.Renumbered.{absent, new_nodes, new_variables, moved_node
 module _ (r : Renumbering) where
   pub inner_number : (i : ℕ) → i < r.inner → moved_node r (suc (suc i)) ≡ r.inner_from + i
   inner_number i l = get_or-range_with_len r.inner_from r.inner i absent l
+
+  -- the same, by the node's own number
+  pub inner_at : (k : ℕ) → 2 ≤ k → k < 2 + r.inner → moved_node r k ≡ r.inner_from + (k - 2)
+  inner_at k l h =
+      let on : k ≡ suc (suc (k - 2)) = omega arith in
+      ap (moved_node r) on ∙ inner_number (k - 2) (omega arith)
 
   pub no_number : (n : ℕ) → 2 + r.inner ≤ n → moved_node r n ≡ absent
   no_number n l = get_or_past (new_nodes r) n absent (omega (arith, length-range_with_len r.inner_from r.inner))

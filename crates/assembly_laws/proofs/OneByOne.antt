@@ -10,7 +10,7 @@ use Rattle.assembly.specs.Meaning.{void, plan, Plan, size_in, is_small}
 use Rattle.layers.proofs.Ends.{by_both_ends}
 use Rattle.series.specs.Series.{series, meet}
 use Rattle.place.specs.Place.{judge_place, judge_plan, with_assembly}
-use Rattle.assembly_laws.specs.Renumbering.{SameButNodes}
+use Rattle.assembly_laws.specs.ButNodes.{SameButNodes}
 use Rattle.assembly_laws.specs.Placed.{joint_before, joint_behind, with_both, FitOneByOne, SeriesFitsAsItsParts, SeriesIsDrawnAsItsParts}
 use Rattle.assembly_laws.proofs.Alike.{same_alike}
 use Rattle.assembly_laws.proofs.Fits.{fits_from, fits_judged}

@@ -15,7 +15,7 @@ use Rattle.netlist.specs.Rules.{Tests, first_of, row_tests, table_row}
 use Rattle.netlist.proofs.Tables.{passes}
 use Rattle.netlist.proofs.Taking.{uses_push}
 use Rattle.plan_judging.specs.Alone.{judge_rows}
-use Rattle.assembly_laws.specs.Renumbering.{nodes_only}
+use Rattle.assembly_laws.specs.ButNodes.{nodes_only}
 
 -- nothing refused by either
 pub neither : {X : Type 0} (x y : Option X) → option_or x y ≡ None → (x ≡ None) × (y ≡ None)

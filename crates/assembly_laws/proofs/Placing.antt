@@ -18,9 +18,8 @@ use Rattle.layers.specs.Renumbered.{absent, moved_node, moved_variable, moved_ro
 use Rattle.series.specs.Series.{in_series, front_place, back_place}
 use Rattle.plan_judging.specs.Terms.{counted_on, law_from}
 use Rattle.place.specs.Moved.{moved_rows as placed_rows, moved_laws as placed_laws, widened, with_plan}
-use Rattle.assembly_laws.specs.Turned.{before, behind}
-use Rattle.assembly_laws.specs.Renumbering.{nodes_only, SameButNodes}
-use Rattle.assembly_laws.proofs.Turned.{before_low, behind_before, before_behind}
+use Rattle.assembly_laws.specs.ButNodes.{nodes_only, SameButNodes}
+use Rattle.assembly_laws.proofs.Turned.{before, behind, before_low, behind_before, before_behind}
 use Rattle.assembly_laws.proofs.Alike.{rows_kept}
 use Rattle.assembly_laws.proofs.Numbers.{node_there, variable_there, variable_number}
 use Rattle.assembly_laws.proofs.Passing.{Names, Kept, RowKept, Passing, passing_from, passing_parts, passing_names, passing_still, passing_judged, uses_kept, uses_append}
@@ -101,8 +100,8 @@ module _ (b : Netlist) (p q : ℕ) (x y u v : Domain) (a c : Plan) where
   pub nodes_of_done : length done.domains ≡ length placed.domains
   nodes_of_done = omega (arith, nodes_of_back, nodes_of_placed, length-append fronted.domains (map domain_number c.inner), length-map c.inner domain_number)
 
-  pub domains_are : (n : ℕ) → n < length placed.domains → get_or done.domains (to n) 0 ≡ get_or placed.domains n 0
-  domains_are n l =
+  pub domains_are : (n : ℕ) → get_or done.domains (to n) 0 ≡ get_or placed.domains n 0
+  domains_are n =
       let is = map domain_number a.inner in
       let js = map domain_number c.inner in
       let long : length (is ++ js) ≡ length a.inner + length c.inner = omega (arith, length-append is js, length-map a.inner domain_number, length-map c.inner domain_number) in
@@ -110,7 +109,7 @@ module _ (b : Netlist) (p q : ℕ) (x y u v : Domain) (a c : Plan) where
       map-append domain_number (a.inner ++ c.inner) (y ∷ []) ∙ ap (λ (zs : List ℕ). zs ++ (domain_number y ∷ [])) (map-append domain_number a.inner c.inner) in
       ap (λ (zs : List ℕ). get_or zs (to n) 0) (append_assoc joined.domains is js)
       ∙ ap (λ k. get_or (joined.domains ++ (is ++ js)) (before (length b.domains) k n) 0) (sym long)
-      ∙ turned_at b.domains (is ++ js) (domain_number y) n (omega (arith, long, nodes_of_placed))
+      ∙ turned_at b.domains (is ++ js) (domain_number y) n
       ∙ ap (λ (zs : List ℕ). get_or (b.domains ++ zs) n 0) (sym inner)
 
   -- how much there is
@@ -213,9 +212,9 @@ module _ (b : Netlist) (p q : ℕ) (x y u v : Domain) (a c : Plan) where
         laws_same (λ v. b.variables + moved_variable back v) (λ v. b.variables + a.variables + v) c.variables (λ v l. omega (arith, variable_number back v l)) c.laws back_of
 
     -- the nodes of a part's rows have the same domains here
-    kept_in : (es : List ℕ) (js : List ℕ) → es ++ js ≡ done.domains → (k : ℕ) → k < length placed.domains → to k < length es → Kept to placed.domains es k
-    kept_in es js e k l h =
-        (h, sym (get_or_append_left es js 0 (to k) h) ∙ ap (λ (zs : List ℕ). get_or zs (to k) 0) e ∙ domains_are k l)
+    kept_in : (es : List ℕ) (js : List ℕ) → es ++ js ≡ done.domains → (k : ℕ) → to k < length es → Kept to placed.domains es k
+    kept_in es js e k h =
+        (h, sym (get_or_append_left es js 0 (to k) h) ∙ ap (λ (zs : List ℕ). get_or zs (to k) 0) e ∙ domains_are k)
 
     front_kept : AllByRecursion (RowKept to placed.domains fronted.domains fronted.variables) (map (renamed_row (through b (p ∷ q ∷ []) front)) a.rows)
     front_kept =
@@ -224,7 +223,7 @@ module _ (b : Netlist) (p q : ℕ) (x y u v : Domain) (a c : Plan) where
         (row_kept (through b (p ∷ q ∷ []) front) (2 + length a.inner) a.variables to placed.domains fronted.domains fronted.variables
         (λ k l.
         let s = front_at k l in
-        kept_in fronted.domains (map domain_number c.inner) refl (placed_node b (p ∷ q ∷ []) (moved_node front k)) (omega (arith, s.drawn, nodes_of_placed)) (omega (arith, s.is, s.here_drawn, nodes_of_back)))
+        kept_in fronted.domains (map domain_number c.inner) refl (placed_node b (p ∷ q ∷ []) (moved_node front k)) (omega (arith, s.is, s.here_drawn, nodes_of_back)))
         (λ v l. omega (arith, variable_number front v l)))
         a.rows front_names)
 
@@ -235,7 +234,7 @@ module _ (b : Netlist) (p q : ℕ) (x y u v : Domain) (a c : Plan) where
         (row_kept (through b (p ∷ q ∷ []) back) (2 + length c.inner) c.variables to placed.domains done.domains done.variables
         (λ k l.
         let s = back_at k l in
-        kept_in done.domains [] (append-nil done.domains) (placed_node b (p ∷ q ∷ []) (moved_node back k)) (omega (arith, s.drawn, nodes_of_placed)) (omega (arith, s.is, s.here_drawn, nodes_of_placed, nodes_of_done)))
+        kept_in done.domains [] (append-nil done.domains) (placed_node b (p ∷ q ∷ []) (moved_node back k)) (omega (arith, s.is, s.here_drawn, nodes_of_placed, nodes_of_done)))
         (λ v l. omega (arith, variable_number back v l)))
         c.rows back_names)
 

@@ -1,19 +1,12 @@
 -- The nodes and variables of three parts in series, taken together in two ways. Assumes nothing.
-use Rattle.std.proofs.Common.{◌≡◌, ℕ, suc, ◌+◌, ◌-◌, ◌<◌, ◌≤◌, sym, ap, ◌∙◌, ⊎_elim, arith}
+use Rattle.std.proofs.Common.{◌≡◌, ℕ, ◌+◌, ◌≤◌, sym, ap, ◌∙◌, ⊎_elim, arith}
 use Rattle.std.proofs.lemmas.Bool.{cases_lt}
 use Rattle.assembly.specs.declared.plans.Size.{Size}
 use Rattle.layers.specs.declared.renumbering.Renumbering.{Renumbering}
 use Rattle.layers.specs.Renumbered.{absent, moved_node, moved_variable}
 use Rattle.series.specs.Series.{front_place, back_place}
-use Rattle.assembly_laws.specs.Turned.{behind}
-use Rattle.assembly_laws.proofs.Turned.{behind_low, behind_high, behind_first, behind_rest}
-use Rattle.assembly_laws.proofs.Numbers.{inner_number, no_number, variable_number, no_variable_number, by_node}
-
--- an inner node, by its number
-inner_at : (r : Renumbering) (k : ℕ) → 2 ≤ k → k < 2 + r.inner → moved_node r k ≡ r.inner_from + (k - 2)
-inner_at r k l h =
-    let on : k ≡ suc (suc (k - 2)) = omega arith in
-    ap (moved_node r) on ∙ inner_number r (k - 2) (omega arith)
+use Rattle.assembly_laws.proofs.Turned.{behind, behind_low, behind_high, behind_first, behind_rest}
+use Rattle.assembly_laws.proofs.Numbers.{inner_at, inner_number, no_number, variable_number, no_variable_number, by_node}
 
 module _ (s t w st tw : Size) (st_inner : st.inner ≡ s.inner + t.inner + 1) (tw_inner : tw.inner ≡ t.inner + w.inner + 1) (few : s.inner + t.inner + w.inner + 2 ≤ 6000) where
   abbrev to : ℕ → ℕ

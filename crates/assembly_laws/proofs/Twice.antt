@@ -19,7 +19,7 @@ same_test : (m n : ℕ) → eqb m n ≡ eqb n m
 same_test m n =
     ⊎_elim (λ e. eq-eqb m n e ∙ sym (eq-eqb n m (sym e))) (λ ne. ne_eqb m n ne ∙ sym (ne_eqb n m (λ e. ne (sym e)))) (cases_eq m n)
 
-same_either_way : (x y : Option Domain) → same_domain x y ≡ same_domain y x
+pub same_either_way : (x y : Option Domain) → same_domain x y ≡ same_domain y x
 same_either_way None None = refl
 same_either_way None (Some e) = refl
 same_either_way (Some d) None = refl
@@ -54,7 +54,7 @@ module _ (a : Plan) where
         laws = two (λ r. moved_laws r a) first_place second_place i;
       })
 
-and_true : (b : Bool) → (b && true) ≡ b
+pub and_true : (b : Bool) → (b && true) ≡ b
 and_true true = refl
 and_true false = refl
 

@@ -1,5 +1,6 @@
-pub mod Turned
-pub mod Renumbering
+pub mod Swapped
+pub mod ButNodes
 pub mod Twice
 pub mod Placed
 pub mod Associative
+pub mod More

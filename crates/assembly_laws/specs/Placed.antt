@@ -8,8 +8,8 @@ use Rattle.netlist.specs.Sound.{Sound}
 use Rattle.assembly.specs.Meaning.{Meaning, void, plan, Proper, domains_of}
 use Rattle.series.specs.Series.{series}
 use Rattle.place.specs.Place.{judge_place, with_assembly}
-use Rattle.assembly_laws.specs.Turned.{before, behind}
-use Rattle.assembly_laws.specs.Renumbering.{SameButNodes}
+use Rattle.assembly_laws.specs.Swapped.{swapped}
+use Rattle.assembly_laws.specs.ButNodes.{SameButNodes}
 
 -- the domain of the joint: that of the first part's second end
 abbrev pub joint_domain : Meaning → ℕ
@@ -32,10 +32,10 @@ with_both b m n p q = with_assembly (with_front b m p) n (length b.domains ∷ q
 
 -- The joint is the last node of the series, and here it comes before the parts' inner nodes.
 abbrev pub joint_before : Netlist → Meaning → Meaning → ℕ → ℕ
-joint_before b m n = before (length b.domains) (inner_count m + inner_count n)
+joint_before b m n = swapped (length b.domains) (inner_count m + inner_count n) 1
 
 abbrev pub joint_behind : Netlist → Meaning → Meaning → ℕ → ℕ
-joint_behind b m n = behind (length b.domains) (inner_count m + inner_count n)
+joint_behind b m n = swapped (length b.domains) 1 (inner_count m + inner_count n)
 
 -- None of these calls is refused.
 pub record FitOneByOne (b : Netlist) (m n : Meaning) (p q : ℕ) : Type 0 where

@@ -2,12 +2,18 @@
 #![tactic(auto)]
 
 ghost use Rattle.assembly_laws.specs.Twice.{TwiceIsSeries};
+ghost use Rattle.assembly_laws.specs.More.{OneCopyMore};
 ghost use Rattle.assembly_laws.specs.Associative.{SeriesIsAssociative};
 ghost use Rattle.assembly_laws.specs.Placed.{SeriesFitsAsItsParts, SeriesIsDrawnAsItsParts};
 
 // Two copies of a part mean the part in series with itself.
 pub fn twice_is_series()
     ensures { TwiceIsSeries }
+{}
+
+// One copy more is one more in series with the others, but for the nodes' numbers.
+pub fn one_copy_more()
+    ensures { OneCopyMore }
 {}
 
 // Of three parts in series it makes no difference which two are taken together first, but for the number

@@ -1,5 +1,5 @@
 -- Two netlists, or two plans, that differ in the numbers of their nodes alone. Assumes nothing.
-use Rattle.std.specs.Prelude.{◌≡◌, ℕ, ◌<◌, map, length, slice_index}
+use Rattle.std.specs.Prelude.{◌≡◌, ℕ, map, length, slice_index}
 use Rattle.netlist.specs.Netlist.{Netlist}
 use Rattle.netlist.specs.Alike.{Renaming, renamed_row}
 use Rattle.assembly.specs.Meaning.{Meaning, void, plan, Plan}
@@ -14,7 +14,7 @@ pub record SameButNodes (to back : ℕ → ℕ) (b c : Netlist) : Type 0 where
   pub back_to : (n : ℕ) → back (to n) ≡ n
   pub to_back : (n : ℕ) → to (back n) ≡ n
   pub count : length c.domains ≡ length b.domains
-  pub domains : (n : ℕ) → n < length b.domains → slice_index c.domains (to n) ≡ slice_index b.domains n
+  pub domains : (n : ℕ) → slice_index c.domains (to n) ≡ slice_index b.domains n
   pub variables : c.variables ≡ b.variables
   pub rows : c.rows ≡ map (renamed_row (nodes_only to)) b.rows
   pub laws : c.laws ≡ b.laws

@@ -10,13 +10,13 @@ use Rattle.layers.specs.Two.{layer_of_two, both_sizes}
 use Rattle.layers.proofs.Ends.{by_ends, by_both_ends}
 use Rattle.layers.proofs.Small.{size_with, small_bounds, small_from}
 use Rattle.series.specs.Series.{in_series, front_place, back_place, meet, series}
-use Rattle.assembly_laws.specs.Renumbering.{MeansButNodes, PlanButNodes}
+use Rattle.assembly_laws.specs.ButNodes.{MeansButNodes, PlanButNodes}
 use Rattle.assembly_laws.specs.Associative.{joint_to_back, joint_to_front, SeriesIsAssociative}
 use Rattle.assembly_laws.proofs.Placing.{with_ends}
 use Rattle.assembly_laws.proofs.Associative.{one, two, three, one_two, two_three, left, right, same_plan}
 
 -- how much two parts in series have
-series_size : (p q : Plan) → length (take 1 p.ends ++ drop 1 q.ends) ≡ 2 → length (drop 1 p.ends) ≡ 1 → size_in (in_series p q) ≡ both_sizes 1 (size_in p) (size_in q)
+pub series_size : (p q : Plan) → length (take 1 p.ends ++ drop 1 q.ends) ≡ 2 → length (drop 1 p.ends) ≡ 1 → size_in (in_series p q) ≡ both_sizes 1 (size_in p) (size_in q)
 series_size p q ends last =
     let f = front_place (size_in p) (size_in q) in
     let g = back_place (size_in p) (size_in q) in
@@ -36,7 +36,7 @@ either_size s t w =
     (λ i. size_with 2 (inner i) (variables i) (rows i) (laws i))
 
 -- where the layer is small its parts are
-small_first : (s t : Size) → is_small (both_sizes 1 s t) ≡ true → is_small s ≡ true
+pub small_first : (s t : Size) → is_small (both_sizes 1 s t) ≡ true → is_small s ≡ true
 small_first s t h =
     let b = small_bounds (both_sizes 1 s t) h in
     small_from s (record { nodes = omega (arith, b.nodes); variables = omega (arith, b.variables); rows = omega (arith, b.rows); laws = omega (arith, b.laws) })
@@ -52,7 +52,7 @@ never true false h = refl
 never true true h = absurd (both_ways false refl (h refl))
 
 -- Nested layers are void unless both pairs meet and the whole is small, if a part is small where the whole is.
-inside_first : (p q : Plan) (t r : Bool) → (is_small (size_in (in_series p q)) ≡ true → r ≡ true) → layer_of_two meet in_series (cond (t && r) (plan p) void) (plan q) ≡ cond (t && (meet (plan p) (plan q) && is_small (size_in (in_series p q)))) (plan (in_series p q)) void
+pub inside_first : (p q : Plan) (t r : Bool) → (is_small (size_in (in_series p q)) ≡ true → r ≡ true) → layer_of_two meet in_series (cond (t && r) (plan p) void) (plan q) ≡ cond (t && (meet (plan p) (plan q) && is_small (size_in (in_series p q)))) (plan (in_series p q)) void
 inside_first p q false r h = refl
 inside_first p q true true h = refl
 inside_first p q true false h = ap (λ (b : Bool). cond b (plan (in_series p q)) void) (sym (never (meet (plan p) (plan q)) (is_small (size_in (in_series p q))) h))
@@ -62,7 +62,7 @@ inside_second p q false r h = ap (λ (b : Bool). cond b (plan (in_series p q)) v
 inside_second p q true true h = refl
 inside_second p q true false h = ap (λ (b : Bool). cond b (plan (in_series p q)) void) (sym (never (meet (plan p) (plan q)) (is_small (size_in (in_series p q))) h))
 
-same_if : (to back : ℕ → ℕ) (t : Bool) (p q : Plan) → (t ≡ true → PlanButNodes to back p q) → MeansButNodes to back (cond t (plan p) void) (cond t (plan q) void)
+pub same_if : (to back : ℕ → ℕ) (t : Bool) (p q : Plan) → (t ≡ true → PlanButNodes to back p q) → MeansButNodes to back (cond t (plan p) void) (cond t (plan q) void)
 same_if to back true p q f = f refl
 same_if to back false p q f = tt
 
