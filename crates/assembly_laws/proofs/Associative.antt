@@ -192,6 +192,7 @@ module _ (x y u v s t : Domain) (a b c : Plan) where
       back_to = before_behind (2 + length a.inner + length b.inner) (length c.inner + 1);
       to_back = behind_before (2 + length a.inner + length b.inner) (length c.inner + 1);
       ends = refl;
+      count = omega (arith, inner_whole, length_push (a.inner ++ two_three.inner) y, length-append a.inner two_three.inner, inner_right);
       first = behind_low (2 + length a.inner + length b.inner) (length c.inner + 1) 0 (omega arith);
       second = behind_low (2 + length a.inner + length b.inner) (length c.inner + 1) 1 (omega arith);
       domains = domains_are;

@@ -16,3 +16,4 @@ pub mod EitherWay
 pub mod Together
 pub mod OneByOne
 pub mod More
+pub mod PlacedAlike

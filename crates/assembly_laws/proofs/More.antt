@@ -90,6 +90,15 @@ module _ (a : Plan) (bounds : Bounded a) (n : ℕ) (some : 1 ≤ n) (x y : Domai
   has_more : size_in left ≡ times_size (n + 1) (size_in part)
   has_more = size_in_copies (n + 1) part bounds_of
 
+  more_size : size_in right ≡ size_in left
+  more_size =
+      let s = size_in part in
+      let inner : n * s.inner + (n - 1) + s.inner + 1 ≡ (n + 1) * s.inner + (n + 1 - 1) = omega arith in
+      let variables : n * s.variables + s.variables ≡ (n + 1) * s.variables = omega arith in
+      let rows : n * s.rows + s.rows ≡ (n + 1) * s.rows = omega arith in
+      let laws : n * s.laws + s.laws ≡ (n + 1) * s.laws = omega arith in
+      series_size copies part refl refl ∙ ap (λ z. both_sizes 1 z s) has ∙ (λ i. size_with 2 (inner i) (variables i) (rows i) (laws i)) ∙ sym has_more
+
   module _ (small : is_small (size_in left) ≡ true) where
     few_nodes : (n + 1) * length a.inner + n ≤ 6000
     few_nodes = omega (arith, (small_bounds (size_in left) small).nodes, ap (λ (z : Size). z.inner) has_more)
@@ -165,6 +174,7 @@ module _ (a : Plan) (bounds : Bounded a) (n : ℕ) (some : 1 ≤ n) (x y : Domai
       back_to = swapped_back (2 + n * length a.inner) (length a.inner) (n - 1);
       to_back = swapped_back (2 + n * length a.inner) (n - 1) (length a.inner);
       ends = refl;
+      count = ap (λ (z : Size). z.inner) more_size;
       first = swapped_low (2 + n * length a.inner) (length a.inner) (n - 1) 0 (omega arith);
       second = swapped_low (2 + n * length a.inner) (length a.inner) (n - 1) 1 (omega arith);
       domains = domains_are;
@@ -172,15 +182,6 @@ module _ (a : Plan) (bounds : Bounded a) (n : ℕ) (some : 1 ≤ n) (x y : Domai
       rows = sym rows_same;
       laws = sym laws_same;
     }
-
-  more_size : size_in right ≡ size_in left
-  more_size =
-      let s = size_in part in
-      let inner : n * s.inner + (n - 1) + s.inner + 1 ≡ (n + 1) * s.inner + (n + 1 - 1) = omega arith in
-      let variables : n * s.variables + s.variables ≡ (n + 1) * s.variables = omega arith in
-      let rows : n * s.rows + s.rows ≡ (n + 1) * s.rows = omega arith in
-      let laws : n * s.laws + s.laws ≡ (n + 1) * s.laws = omega arith in
-      series_size copies part refl refl ∙ ap (λ z. both_sizes 1 z s) has ∙ (λ i. size_with 2 (inner i) (variables i) (rows i) (laws i)) ∙ sym has_more
 
   is_counted : (k : ℕ) → 1 ≤ k → k ≤ 1000 → is_count k ≡ true
   is_counted k l h = and_from _ _ (le-leb 1 k l) (le-leb k 1000 h)

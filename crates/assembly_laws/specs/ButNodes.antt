@@ -24,6 +24,7 @@ pub record PlanButNodes (to back : ℕ → ℕ) (a c : Plan) : Type 0 where
   pub back_to : (n : ℕ) → back (to n) ≡ n
   pub to_back : (n : ℕ) → to (back n) ≡ n
   pub ends : c.ends ≡ a.ends
+  pub count : length c.inner ≡ length a.inner
   pub first : to 0 ≡ 0
   pub second : to 1 ≡ 1
   pub domains : (n : ℕ) → domain_at (plan c) (to n) ≡ domain_at (plan a) n

@@ -4,3 +4,4 @@ pub mod Twice
 pub mod Placed
 pub mod Associative
 pub mod More
+pub mod PlacedAlike

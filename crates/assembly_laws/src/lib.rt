@@ -5,6 +5,7 @@ ghost use Rattle.assembly_laws.specs.Twice.{TwiceIsSeries};
 ghost use Rattle.assembly_laws.specs.More.{OneCopyMore};
 ghost use Rattle.assembly_laws.specs.Associative.{SeriesIsAssociative};
 ghost use Rattle.assembly_laws.specs.Placed.{SeriesFitsAsItsParts, SeriesIsDrawnAsItsParts};
+ghost use Rattle.assembly_laws.specs.PlacedAlike.{FitAlike, AreDrawnAlike};
 
 // Two copies of a part mean the part in series with itself.
 pub fn twice_is_series()
@@ -31,4 +32,14 @@ pub fn series_fits_as_its_parts()
 // And both draw the same, but for the nodes' numbers.
 pub fn series_is_drawn_as_its_parts()
     ensures { SeriesIsDrawnAsItsParts }
+{}
+
+// Assemblies that differ in the numbers of their inner nodes alone can be placed at the same nodes.
+pub fn fit_alike()
+    ensures { FitAlike }
+{}
+
+// And they draw the same, but for the nodes' numbers.
+pub fn are_drawn_alike()
+    ensures { AreDrawnAlike }
 {}
