@@ -7,8 +7,8 @@ use Rattle.assembly.specs.Meaning.{Meaning, Proper}
 use Rattle.place.specs.Place.{judge_place, with_assembly}
 use Rattle.assembly_laws.specs.ButNodes.{MeansButNodes, SameButNodes}
 
--- Nodes that were drawn before keep their numbers; behind them is inner node j of the one plan where node
--- 2 + j of the plan is numbered anew.
+-- Nodes that were drawn before keep their numbers. Behind them stand a plan's inner nodes, in their order:
+-- inner node j, which is node 2 + j of the plan, goes where node `to (2 + j)` of the other plan stands.
 abbrev pub behind_drawn : ℕ → (ℕ → ℕ) → ℕ → ℕ
 behind_drawn drawn to k = cond (nat_lt k drawn) k (drawn + (to (2 + (k - drawn)) - 2))
 
