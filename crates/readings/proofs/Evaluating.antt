@@ -1,7 +1,8 @@
 -- What each kind of listed equation comes to. Assumes nothing.
-use Rattle.std.proofs.Common.{◌≡◌, ℕ, zero, suc, ◌+◌, ◌-◌, ◌<◌, ◌≤◌, Bool, true, false, cond, eqb, ltb, List, [], ◌∷◌, ◌++◌, length, Some, None, sym, refl, ap, ◌∙◌, ap₂, add-one, arith}
+use Rattle.std.proofs.Common.{◌≡◌, ℕ, suc, ◌+◌, ◌-◌, ◌<◌, ◌≤◌, Bool, true, false, cond, eqb, ltb, List, [], ◌∷◌, ◌++◌, length, take, ℤ, Some, None, sym, refl, ap, ◌∙◌, ap₂, add-one, arith}
 use Rattle.std.specs.Option.{option_to_list}
 use Rattle.std.proofs.lemmas.Bool.{and_parts, lt-ltb, le-ltb, cond-true, cond-false, eqb-true, eqb-false, false≢true}
+use Rattle.std.proofs.lemmas.List.{take_more}
 use Rattle.quantity.specs.Group.{Group, minus}
 use Rattle.quantity.proofs.Groups.{right, negation_minus, minus_zero}
 use Rattle.quantity.proofs.Multiplying.{multiple_one, multiple_minus_one}
@@ -12,7 +13,7 @@ use Rattle.netlist.specs.Rows.{flow_of, across_of}
 use Rattle.netlist.specs.Sound.{every, names}
 use Rattle.equation.specs.Equations.{plus as plus_term, minus as minus_term, term_at, node_sum, row_equation}
 use Rattle.network.specs.Flows.{crossing, leaves, only, excess}
-use Rattle.network.specs.Laws.{of_order, law_sum}
+use Rattle.network.specs.Laws.{of_order, no_term, term_at as terms_at, law_sum}
 use Rattle.network.specs.Walks.{read, row_at, tail_of, head_of}
 use Rattle.readings.specs.Readings.{term_reading, equation_sum}
 use Rattle.readings.specs.Agreement.{with_earth}
@@ -43,6 +44,12 @@ module _ {G : Type 0} (𝓖 : Group G) (n : ℕ) (values rates : List G) (p : �
   sum_append : (xs ys : List Term) → sum (xs ++ ys) ≡ 𝓖.sum (sum xs) (sum ys)
   sum_append [] ys = sym (𝓖.neutral _)
   sum_append (t ∷ xs) ys = ap (𝓖.sum _) (sum_append xs ys) ∙ sym (𝓖.associative _ _ _)
+
+  -- the loop's sum after term i, which has the coefficient k and the reading r, and adds x
+  pub sum_more : (ts : List Term) (i : ℕ) (s : G) (k : ℤ) (r x s' : G) → i < length ts → s ≡ sum (take i ts) → k ≡ (terms_at ts i).coefficient → r ≡ term_reading 𝓖 n values rates p (terms_at ts i) → x ≡ 𝓖.multiple k r → s' ≡ 𝓖.sum s x → s' ≡ sum (take (i + 1) ts)
+  sum_more ts i s k r x s' h so coefficient reading is next =
+      next ∙ ap₂ 𝓖.sum so (is ∙ ap₂ 𝓖.multiple coefficient reading ∙ sym (right 𝓖 _))
+      ∙ sym (ap sum (take_more ts i no_term h) ∙ sum_append (take i ts) (terms_at ts i ∷ []))
 
   one_plus : (u : ℕ) → u < n → sum (plus_term u ∷ []) ≡ read 𝓖 values u
   one_plus u l = right 𝓖 _ ∙ multiple_one 𝓖 _ ∙ reads_variable (plus_term u) l

@@ -45,7 +45,6 @@ module _ {G : Type 0} (𝓖 : Group G) where
     flow_next : (rows : List (Row ℕ)) (i : ℕ) (d : Row ℕ) → i < length rows → net_flow 𝓖 (take (i + 1) rows) values inside ≡ 𝓖.sum (net_flow 𝓖 (take i rows) values inside) (of_row (get_or rows i d))
     flow_next rows i d h = ap (λ (xs : List (Row ℕ)). net_flow 𝓖 xs values inside) (take_more rows i d h) ∙ flow_push (take i rows) (get_or rows i d)
 
-    -- the loop's sum after row i, which has the flow v and the reading r, and brings x
-    pub flow_more : (rows : List (Row ℕ)) (i : ℕ) (s : G) (v : ℕ) (r x s' : G) → i < length rows → s ≡ net_flow 𝓖 (take i rows) values inside → v ≡ flow_of (row_at rows i) → r ≡ read 𝓖 values v → x ≡ leaves 𝓖 inside (row_at rows i) r → s' ≡ 𝓖.sum s x → s' ≡ net_flow 𝓖 (take (i + 1) rows) values inside
-    flow_more rows i s v r x s' h so flow reading is next =
-        next ∙ ap₂ 𝓖.sum so (is ∙ ap (leaves 𝓖 inside (row_at rows i)) (reading ∙ ap (read 𝓖 values) flow)) ∙ sym (flow_next rows i no_row h)
+    -- the loop's sum after row i, which brings x
+    pub flow_more : (rows : List (Row ℕ)) (i : ℕ) (s x s' : G) → i < length rows → s ≡ net_flow 𝓖 (take i rows) values inside → x ≡ of_row (row_at rows i) → s' ≡ 𝓖.sum s x → s' ≡ net_flow 𝓖 (take (i + 1) rows) values inside
+    flow_more rows i s x s' h so is next = next ∙ ap₂ 𝓖.sum so is ∙ sym (flow_next rows i no_row h)

@@ -1,8 +1,9 @@
 // What flows out of a node, and out of a set of nodes.
 ghost use Rattle.std.specs.Prelude.{◌≡◌, ℕ, Bool};
 ghost use Rattle.netlist.specs.Flags.{flag_up};
+ghost use Rattle.netlist.specs.Rows.{flow_of};
 ghost use Rattle.network.specs.Flows.{crossing, leaves, net_flow, excess};
-ghost use Rattle.network.specs.Walks.{Drawn};
+ghost use Rattle.network.specs.Walks.{read, Drawn};
 ghost use Rattle.sums.specs.Sets.{IsTestOf, excesses};
 
 use crate::lookup::reading;
@@ -20,11 +21,12 @@ fn crossing<K: Quantity>(start_inside: bool, end_inside: bool, flow: K) -> K
     }
 }
 
-// What a row with this flow brings out of the set that a test tells. The earth is in no such set.
-fn leaves<K: Quantity, F: Fn(usize) -> bool>(row: Row, flow: K, is_inside: &F) -> K
+// What a row brings out of the set that a test tells. The earth is in no such set.
+fn leaves<K: Quantity, F: Fn(usize) -> bool>(row: Row, values: &[K], is_inside: &F) -> K
     requires { F.IsAlwaysCallable is_inside.now }
-    ensures { (inside : ℕ → Bool) → IsTestOf inside (F.post is_inside.now) → result ≡ leaves K.group inside row flow }
+    ensures { (inside : ℕ → Bool) → IsTestOf inside (F.post is_inside.now) → result ≡ leaves K.group inside row (read K.group values.now (flow_of row)) }
 {
+    let flow = reading(values, row.flow());
     match row {
         Row::Branch { first, second, .. } => crossing(is_inside(first), is_inside(second), flow),
         Row::Earth { node, .. } => crossing(is_inside(node), false, flow),
@@ -38,7 +40,7 @@ fn flow_out<K: Quantity, F: Fn(usize) -> bool>(rows: &[Row], values: &[K], is_in
 {
     let mut sum = K::zero();
     for row in rows {
-        sum = sum.sum(leaves(*row, reading(values, row.flow()), &is_inside));
+        sum = sum.sum(leaves(*row, values, &is_inside));
     }
     sum
 }
