@@ -39,7 +39,7 @@ module _ {G : Type 0} (𝓖 : Group G) where
           ap (equation_sum 𝓖 b.variables values rates p) (row_equation_at b.laws b.rows (length b.domains) b.variables j no_row l)
           ∙ row_comes 𝓖 b.variables values rates p (row_at b.rows j) (across_drawn b sound j l)
 
-      pub equation_parts : EquationParts 𝓖 b values rates p
+      equation_parts : EquationParts 𝓖 b values rates p
       equation_parts = record {
         law = λ k l.
             ap (equation_sum 𝓖 b.variables values rates p) (law_at b.laws b.rows (length b.domains) b.variables k l)

@@ -1,4 +1,4 @@
--- What a sound netlist names is drawn: the nodes and variables of its rows, and the variables of its laws. Assumes nothing.
+-- What the rows of a sound netlist name is drawn, nodes and variables. Assumes nothing.
 use Rattle.std.proofs.Common.{◌≡◌, ℕ, zero, suc, ◌+◌, ◌<◌, ◌≤◌, true, ltb, List, [], ◌∷◌, length, refl, ap, ⊎_elim, arith}
 use Rattle.std.proofs.lemmas.Bool.{and_parts, ltb-true, eq-eqb, cases_lt}
 use Rattle.netlist.specs.declared.rows.Row.{Row}

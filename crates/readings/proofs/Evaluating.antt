@@ -19,7 +19,7 @@ use Rattle.readings.specs.Readings.{term_reading, equation_sum}
 use Rattle.readings.specs.Agreement.{with_earth}
 
 module _ {G : Type 0} (𝓖 : Group G) (p : ℕ → G) where
-  pub earth_node : (u : ℕ) → with_earth 𝓖 p (u + 1) ≡ p u
+  earth_node : (u : ℕ) → with_earth 𝓖 p (u + 1) ≡ p u
   earth_node u = ap (with_earth 𝓖 p) (add-one u)
 
 module _ {G : Type 0} (𝓖 : Group G) (n : ℕ) (values rates : List G) (p : ℕ → G) where
