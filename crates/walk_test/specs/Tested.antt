@@ -1,0 +1,25 @@
+-- What the walk test answers, and what the potentials are then. Assumes nothing.
+use Rattle.std.specs.Prelude.{◌≡◌, ℕ, ◌+◌, List, length, replicate, Result, Ok, Err}
+use Rattle.quantity.specs.Group.{Group}
+use Rattle.netlist.specs.declared.rows.Row.{Row}
+use Rattle.network.specs.Walks.{Network, row_at, tail_of, head_of, Solved, Refuted}
+use Rattle.walk_test.specs.declared.findings.Finding.{Finding}
+use Rattle.walk_test.specs.declared.findings.Finding.TheVariants.{Balanced, Unbalanced}
+use Rattle.walk_test.specs.declared.findings.Misfit.{Misfit}
+use Rattle.walk_test.specs.Drawn.{judged}
+use Rattle.walk_test.specs.Potentials.{potential_at}
+
+-- the network of rows, where the reading of a row is told by its number and by the row
+abbrev pub network_with : {G : Type 0} → List (Row ℕ) → (ℕ → Row ℕ → G) → Network G
+network_with rows reading = record { tail = λ j. tail_of (row_at rows j); head = λ j. head_of (row_at rows j); reading = λ j. reading j (row_at rows j) }
+
+-- no closed walk along the first m rows is left over, and the potentials are the one filling;
+-- or row k is the lowest that leaves one over, and every potential is zero
+abbrev pub Found : {G : Type 0} → Group G → Network G → ℕ → List G → Finding → Type 0
+Found 𝓖 R m potentials Balanced = Solved 𝓖 R (length potentials + 1) m (potential_at 𝓖 potentials)
+Found 𝓖 R m potentials (Unbalanced k) = Refuted 𝓖 R m k × (potentials ≡ replicate (length potentials) 𝓖.zero)
+
+-- the finding, with one potential for each node as before; or why there is none, and the potentials are as before
+abbrev pub Tested : {G : Type 0} → Group G → List (Row ℕ) → (ℕ → Row ℕ → G) → List G → List G → Result Finding Misfit → Type 0
+Tested 𝓖 rows reading old new (Ok finding) = (judged rows (length old) ≡ Ok tt) × (length new ≡ length old) × Found 𝓖 (network_with rows reading) (length rows) new finding
+Tested 𝓖 rows reading old new (Err why) = (judged rows (length old) ≡ Err why) × (new ≡ old)

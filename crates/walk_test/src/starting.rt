@@ -1,0 +1,22 @@
+// Where the walk test starts: no row is taken yet.
+ghost use Rattle.std.specs.Prelude.{◌≡◌, length, replicate, EachIndex, slice_index};
+
+use quantity::Quantity;
+
+// Sets every potential to zero.
+pub fn clear<K: Quantity>(potentials: &mut [K])
+    ensures { potentials.new ≡ replicate (length potentials.old) K.group.zero }
+{
+    for potential in potentials.iter_mut() {
+        *potential = K::zero();
+    }
+}
+
+// Makes each vertex a part of its own.
+pub fn set_apart(labels: &mut [usize])
+    ensures { EachIndex labels.new (λ v. slice_index labels.new v ≡ v) }
+{
+    for (v, label) in labels.iter_mut().enumerate() {
+        *label = v;
+    }
+}

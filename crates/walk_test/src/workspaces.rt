@@ -1,0 +1,31 @@
+// What the walk test works in.
+use std::alloc::{AllocError, Global};
+use std::marker::Model;
+
+// The most nodes that a sheet has.
+pub const MOST_NODES: usize = 1000;
+
+// Memory for the labels of the largest sheet's vertices. It is made once, and used again for every set of readings.
+#[derive(Drop)]
+pub struct Workspace {
+    pub(crate) labels: Vec<usize>,
+}
+
+// What it holds is of no matter to a caller: each test begins anew.
+impl Model for Workspace {
+    ghost use Rattle.std.specs.Prelude.{◌≡◌, ⊤, vec_len};
+
+    ghost Value = { ⊤ };
+
+    ghost view = { λ _. tt };
+
+    ghost invariant = { λ workspace. vec_len workspace.labels ≡ 1001 };
+}
+
+impl Workspace {
+    pub fn new(heap: Global) -> Result<Workspace, AllocError> {
+        Ok(Workspace {
+            labels: vec![in heap; 0; MOST_NODES + 1]?,
+        })
+    }
+}
