@@ -1,3 +1,4 @@
 pub mod Filling
 pub mod Moving
 pub mod Taking
+pub mod Fitting

@@ -58,7 +58,7 @@ fn relabel<K: Quantity>(
 }
 
 // Takes row k to the rows before it. False says that it leaves over a closed walk.
-fn join<K: Quantity, A: Across<K>>(
+pub fn join<K: Quantity, A: Across<K>>(
     rows: &[Row],
     across: &A,
     k: usize,

@@ -7,9 +7,11 @@ mod findings;
 mod joining;
 mod judging;
 mod starting;
+mod testing;
 mod workspaces;
 
 pub use across::{Across, ByVariable};
 pub use findings::{Finding, Misfit};
 pub use starting::clear;
+pub use testing::test_walks;
 pub use workspaces::{MOST_NODES, Workspace};

@@ -1,0 +1,49 @@
+// The walk test of rows and their readings.
+ghost use Rattle.std.specs.Prelude.{◌≡◌, ◌<◌, length};
+ghost use Rattle.network.specs.Walks.{Drawn};
+ghost use Rattle.walk_test.specs.Tested.{network_with, Found, Tested};
+
+use super::across::Across;
+use super::findings::{Finding, Misfit};
+use super::joining::join;
+use super::judging::judge;
+use super::starting::{clear, set_apart};
+use super::workspaces::Workspace;
+use netlist::rows::Row;
+use quantity::Quantity;
+
+// Takes the rows in order. Where one leaves over a closed walk, all potentials are set to zero.
+fn take_rows<K: Quantity, A: Across<K>>(
+    rows: &[Row],
+    across: &A,
+    labels: &mut [usize],
+    potentials: &mut [K],
+) -> Finding
+    requires drawn { Drawn rows.now (length potentials.old) }
+    requires vertices { length potentials.old < length labels.old }
+    ensures { Found K.group (network_with rows.now (A.reading across.now)) (length rows.now) potentials.new result }
+{
+    set_apart(labels);
+    clear(potentials);
+    for k in 0..rows.len() {
+        if !join(rows, across, k, labels, potentials) {
+            clear(potentials);
+            return Finding::Unbalanced { row: k };
+        }
+    }
+    Finding::Balanced
+}
+
+// Whether each closed walk along the rows adds up to zero. If so, the potentials of the nodes satisfy the rows, with zero at
+// the earth point, and at the lowest node of each part without an earth; otherwise they are zero. It needs no memory.
+pub fn test_walks<K: Quantity, A: Across<K>>(
+    rows: &[Row],
+    across: &A,
+    potentials: &mut [K],
+    workspace: &mut Workspace,
+) -> Result<Finding, Misfit>
+    ensures { Tested K.group rows.now (A.reading across.now) potentials.old potentials.new result }
+{
+    judge(rows, potentials.len())?;
+    Ok(take_rows(rows, across, &mut workspace.labels, potentials))
+}
