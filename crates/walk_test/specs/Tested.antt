@@ -19,7 +19,7 @@ abbrev pub Found : {G : Type 0} → Group G → Network G → ℕ → List G →
 Found 𝓖 R m potentials Balanced = Solved 𝓖 R (length potentials + 1) m (potential_at 𝓖 potentials)
 Found 𝓖 R m potentials (Unbalanced k) = Refuted 𝓖 R m k × (potentials ≡ replicate (length potentials) 𝓖.zero)
 
--- the finding, with one potential for each node as before; or why there is none, and the potentials are as before
-abbrev pub Tested : {G : Type 0} → Group G → List (Row ℕ) → (ℕ → Row ℕ → G) → List G → List G → Result Finding Misfit → Type 0
-Tested 𝓖 rows reading old new (Ok finding) = (judged rows (length old) ≡ Ok tt) × (length new ≡ length old) × Found 𝓖 (network_with rows reading) (length rows) new finding
-Tested 𝓖 rows reading old new (Err why) = (judged rows (length old) ≡ Err why) × (new ≡ old)
+-- a finding, and one potential for each node as before; or why there is none, and the potentials as before
+abbrev pub Tested : {G : Type 0} → Group G → List (Row ℕ) → Network G → List G → List G → Result Finding Misfit → Type 0
+Tested 𝓖 rows R old new (Ok finding) = (judged rows (length old) ≡ Ok tt) × (length new ≡ length old) × Found 𝓖 R (length rows) new finding
+Tested 𝓖 rows R old new (Err why) = (judged rows (length old) ≡ Err why) × (new ≡ old)

@@ -5,26 +5,33 @@ ghost use Rattle.walk_test.specs.Drawn.{is_drawn};
 
 use netlist::rows::Row;
 
-// There is one earth point for all earths.
+// All earths lead to one earth point.
 const EARTH: usize = 0;
 
-pub fn tail(row: Row) -> usize
-    requires { tail_of row < 2 ^ 64 }
-    ensures { result ≡ tail_of row }
-{
-    match row {
-        Row::Branch { first, .. } => first + 1,
-        Row::Earth { node, .. } => node + 1,
-    }
+// A row leads from its tail to its head.
+#[derive(Clone, Copy)]
+pub struct Ends {
+    pub tail: usize,
+    pub head: usize,
 }
 
-pub fn head(row: Row) -> usize
-    requires { head_of row < 2 ^ 64 }
-    ensures { result ≡ head_of row }
-{
-    match row {
-        Row::Branch { second, .. } => second + 1,
-        Row::Earth { .. } => EARTH,
+impl Ends {
+    pub fn of(row: Row) -> Ends
+        requires tail { tail_of row < 2 ^ 64 }
+        requires head { head_of row < 2 ^ 64 }
+        ensures tail { result.tail ≡ tail_of row }
+        ensures head { result.head ≡ head_of row }
+    {
+        match row {
+            Row::Branch { first, second, .. } => Ends {
+                tail: first + 1,
+                head: second + 1,
+            },
+            Row::Earth { node, .. } => Ends {
+                tail: node + 1,
+                head: EARTH,
+            },
+        }
     }
 }
 

@@ -1,18 +1,18 @@
-// Rows are taken one by one to those before, and join the parts that they lead between. A part is what rows have joined.
+// Rows are taken one by one to those before, and join the parts that they lead between.
 // Each vertex is labelled with the lowest of its part, and has its potential against that one.
-ghost use Rattle.std.specs.Prelude.{◌≡◌, ◌+◌, ◌<◌, ◌≢◌, length, MatchBool, slice_index};
-ghost use Rattle.network.specs.Settled.{gap_at};
+ghost use Rattle.std.specs.Prelude.{◌≡◌, ◌≢◌, ◌+◌, ◌<◌, length, MatchBool, slice_index};
+ghost use Rattle.quantity.specs.Group.{minus};
 ghost use Rattle.network.specs.Walks.{Drawn, Unbalanced};
 ghost use Rattle.walk_test.specs.Joining.{SettledBy, MovedBy};
 ghost use Rattle.walk_test.specs.Potentials.{potential_at};
 ghost use Rattle.walk_test.specs.Tested.{network_with};
 
 use super::across::Across;
-use super::ends::{head, tail};
+use super::ends::Ends;
 use netlist::rows::Row;
 use quantity::{Quantity, difference};
 
-// The potential of a vertex.
+// The potential of a vertex. The earth point's is zero, and is not listed.
 fn potential<K: Quantity>(potentials: &[K], v: usize) -> K
     requires { v < length potentials.now + 1 }
     ensures { result ≡ potential_at K.group potentials.now v }
@@ -23,20 +23,19 @@ fn potential<K: Quantity>(potentials: &[K], v: usize) -> K
     potentials[v - 1]
 }
 
-// How far the reading of row k is from the difference of the potentials at its ends.
-fn gap<K: Quantity, A: Across<K>>(rows: &[Row], across: &A, k: usize, potentials: &[K]) -> K
-    requires row { k < length rows.now }
-    requires drawn { Drawn rows.now (length potentials.now) }
-    ensures { result ≡ gap_at K.group (network_with rows.now (A.reading across.now)) (potential_at K.group potentials.now) k }
+// How far a row's reading is from the difference of the potentials at its ends.
+fn gap<K: Quantity>(reading: K, ends: Ends, potentials: &[K]) -> K
+    requires tail { ends.tail < length potentials.now + 1 }
+    requires head { ends.head < length potentials.now + 1 }
+    ensures { result ≡ minus K.group reading (minus K.group (potential_at K.group potentials.now ends.tail) (potential_at K.group potentials.now ends.head)) }
 {
-    let row = rows[k];
-    let at_tail = potential(potentials, tail(row));
-    let at_head = potential(potentials, head(row));
-    difference(across.reading(k, row), difference(at_tail, at_head))
+    let at_tail = potential(potentials, ends.tail);
+    let at_head = potential(potentials, ends.head);
+    difference(reading, difference(at_tail, at_head))
 }
 
-// Moves the part that is labelled `from` over to the part that is labelled `to`, and raises its potentials by `shift`.
-// The earth's part never moves.
+// Moves the part that is labelled `from` over to the part that is labelled `to`, and raises its potentials
+// by `shift`. The earth's part never moves.
 fn relabel<K: Quantity>(
     labels: &mut [usize],
     potentials: &mut [K],
@@ -57,7 +56,8 @@ fn relabel<K: Quantity>(
     }
 }
 
-// Takes row k to the rows before it. False says that it leaves over a closed walk.
+// Takes row k to the rows before it, whose parts have labels and potentials. A row between two parts joins them: the one
+// with the higher label moves, so that the row fits. A row inside a part is tested: false says that it leaves over a closed walk.
 pub fn join<K: Quantity, A: Across<K>>(
     rows: &[Row],
     across: &A,
@@ -69,12 +69,14 @@ pub fn join<K: Quantity, A: Across<K>>(
     requires drawn { Drawn rows.now (length potentials.old) }
     requires vertices { length potentials.old < length labels.old }
     requires settled { SettledBy K.group (network_with rows.now (A.reading across.now)) k labels.old potentials.old }
-    ensures { MatchBool result (SettledBy K.group (network_with rows.now (A.reading across.now)) (k + 1) labels.new potentials.new) (Unbalanced K.group (network_with rows.now (A.reading across.now)) (k + 1)) }
+    ensures { let R = network_with rows.now (A.reading across.now) in
+        MatchBool result (SettledBy K.group R (k + 1) labels.new potentials.new) (Unbalanced K.group R (k + 1)) }
 {
     let row = rows[k];
-    let from = labels[tail(row)];
-    let to = labels[head(row)];
-    let shift = gap(rows, across, k, potentials);
+    let ends = Ends::of(row);
+    let from = labels[ends.tail];
+    let to = labels[ends.head];
+    let shift = gap(across.reading(k, row), ends, potentials);
     if from == to {
         return shift.equals(K::zero());
     }

@@ -4,7 +4,7 @@ ghost use Rattle.walk_test.specs.Drawn.{first_undrawn, judged};
 
 use super::ends::is_drawn;
 use super::findings::Misfit;
-use super::workspaces::MOST_NODES;
+use super::workspaces::MAX_NODES;
 use netlist::rows::Row;
 
 // The lowest row that names another than the first `nodes` nodes.
@@ -17,7 +17,7 @@ fn first_undrawn(rows: &[Row], nodes: usize) -> Option<usize>
 pub fn judge(rows: &[Row], nodes: usize) -> Result<(), Misfit>
     ensures { result ≡ judged rows.now nodes }
 {
-    if nodes > MOST_NODES {
+    if nodes > MAX_NODES {
         return Err(Misfit::TooMany);
     }
     match first_undrawn(rows, nodes) {

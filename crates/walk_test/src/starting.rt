@@ -1,5 +1,7 @@
 // Where the walk test starts: no row is taken yet.
-ghost use Rattle.std.specs.Prelude.{◌≡◌, length, replicate, EachIndex, slice_index};
+ghost use Rattle.std.specs.Prelude.{◌≡◌, ◌<◌, length, replicate, EachIndex, slice_index};
+ghost use Rattle.network.specs.Walks.{Network};
+ghost use Rattle.walk_test.specs.Joining.{SettledBy};
 
 use quantity::Quantity;
 
@@ -13,10 +15,18 @@ pub fn clear<K: Quantity>(potentials: &mut [K])
 }
 
 // Makes each vertex a part of its own.
-pub fn set_apart(labels: &mut [usize])
+fn set_apart(labels: &mut [usize])
     ensures { EachIndex labels.new (λ v. slice_index labels.new v ≡ v) }
 {
     for (v, label) in labels.iter_mut().enumerate() {
         *label = v;
     }
+}
+
+pub fn start<K: Quantity>(labels: &mut [usize], potentials: &mut [K])
+    requires { length potentials.old < length labels.old }
+    ensures { (R : Network K) → SettledBy K.group R 0 labels.new potentials.new }
+{
+    set_apart(labels);
+    clear(potentials);
 }

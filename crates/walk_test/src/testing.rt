@@ -7,7 +7,7 @@ use super::across::Across;
 use super::findings::{Finding, Misfit};
 use super::joining::join;
 use super::judging::judge;
-use super::starting::{clear, set_apart};
+use super::starting::{clear, start};
 use super::workspaces::Workspace;
 use netlist::rows::Row;
 use quantity::Quantity;
@@ -23,8 +23,7 @@ fn take_rows<K: Quantity, A: Across<K>>(
     requires vertices { length potentials.old < length labels.old }
     ensures { Found K.group (network_with rows.now (A.reading across.now)) (length rows.now) potentials.new result }
 {
-    set_apart(labels);
-    clear(potentials);
+    start(labels, potentials);
     for k in 0..rows.len() {
         if !join(rows, across, k, labels, potentials) {
             clear(potentials);
@@ -42,7 +41,7 @@ pub fn test_walks<K: Quantity, A: Across<K>>(
     potentials: &mut [K],
     workspace: &mut Workspace,
 ) -> Result<Finding, Misfit>
-    ensures { Tested K.group rows.now (A.reading across.now) potentials.old potentials.new result }
+    ensures { Tested K.group rows.now (network_with rows.now (A.reading across.now)) potentials.old potentials.new result }
 {
     judge(rows, potentials.len())?;
     Ok(take_rows(rows, across, &mut workspace.labels, potentials))

@@ -3,7 +3,7 @@ use std::alloc::{AllocError, Global};
 use std::marker::Model;
 
 // The most nodes that a sheet has.
-pub const MOST_NODES: usize = 1000;
+pub const MAX_NODES: usize = 1000;
 
 // Memory for the labels of the largest sheet's vertices. It is made once, and used again for every set of readings.
 #[derive(Drop)]
@@ -25,7 +25,7 @@ impl Model for Workspace {
 impl Workspace {
     pub fn new(heap: Global) -> Result<Workspace, AllocError> {
         Ok(Workspace {
-            labels: vec![in heap; 0; MOST_NODES + 1]?,
+            labels: vec![in heap; 0; MAX_NODES + 1]?,
         })
     }
 }

@@ -12,7 +12,7 @@ loop-node-preserved g c =
     let inside : l.node < length l.potentials = omega arith in
     let So = Moving 𝓖 a.from a.to a.shift a.labels.now a.potentials.now (l.node + 1 + 1) in
     elim c.if-labels-v.branch [
-      then-labels-v w ↦
+      | then-labels-v w ↦
           let read = get_or_read l.potentials _ _ inside w.index-potentials-node.is 𝓖.zero in
           subst₂ So (sym w.labels-is) (sym w.potentials-is)
           (moves 𝓖 a.from a.to a.shift a.labels.now a.potentials.now l.node l.labels l.potentials l.invariant

@@ -5,10 +5,12 @@ use Rattle.walk_test.specs.Potentials.{potential_at}
 use Rattle.walk_test.specs.Tested.{network_with}
 use Rattle.walk_test.proofs.testing.take_rows.Goals as goal
 
+pub loop-k-init : goal.loop-k-init
+loop-k-init g c = c.start.ensures _
+
 pub returns-then-not-join : goal.returns-then-not-join
 returns-then-not-join g c =
-    let l = c.loop-k in
-    (
+    let l = c.loop-k in (
       record {
         within = c.loop-k-test.true;
         before = settled_balances _ _ (length l.potentials + 1) _ (slice_index l.labels) (potential_at g.K.Quantity.group l.potentials) l.invariant;
