@@ -18,6 +18,6 @@ abbrev pub undrawn : Option ℕ → Result (Unit {0}) Misfit
 undrawn None = Ok tt
 undrawn (Some k) = Err (Undrawn k)
 
--- whether a workspace serves n nodes, and each row names none but these
+-- a workspace serves n nodes, and each row names none but these; or the first of this that fails
 abbrev pub judged : List (Row ℕ) → ℕ → Result (Unit {0}) Misfit
 judged rows n = if nat_lt 1000 n then Err TooMany else undrawn (first_undrawn rows n)

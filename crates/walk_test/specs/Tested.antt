@@ -13,13 +13,13 @@ use Rattle.walk_test.specs.Potentials.{potential_at}
 abbrev pub network_with : {G : Type 0} → List (Row ℕ) → (ℕ → Row ℕ → G) → Network G
 network_with rows reading = record { tail = λ j. tail_of (row_at rows j); head = λ j. head_of (row_at rows j); reading = λ j. reading j (row_at rows j) }
 
--- no closed walk along the first m rows is left over, and the potentials are the one filling;
--- or row k is the lowest that leaves one over, and every potential is zero
+-- every closed walk along the first m rows adds to zero, and the potentials are the one filling of the nodes;
+-- or row k is the lowest with which some closed walk does not, and every potential is zero
 abbrev pub Found : {G : Type 0} → Group G → Network G → ℕ → List G → Finding → Type 0
 Found 𝓖 R m potentials Balanced = Solved 𝓖 R (length potentials + 1) m (potential_at 𝓖 potentials)
 Found 𝓖 R m potentials (Unbalanced k) = Refuted 𝓖 R m k × (potentials ≡ replicate (length potentials) 𝓖.zero)
 
--- a finding, and one potential for each node as before; or why there is none, and the potentials as before
+-- a finding about rows that fit, with one potential for each node as before; or why they do not, and then no potential has changed
 abbrev pub Tested : {G : Type 0} → Group G → List (Row ℕ) → Network G → List G → List G → Result Finding Misfit → Type 0
 Tested 𝓖 rows R old new (Ok finding) = (judged rows (length old) ≡ Ok tt) × (length new ≡ length old) × Found 𝓖 R (length rows) new finding
 Tested 𝓖 rows R old new (Err why) = (judged rows (length old) ≡ Err why) × (new ≡ old)

@@ -7,25 +7,25 @@ ghost use Rattle.network.specs.Walks.{read};
 use netlist::rows::Row;
 use quantity::Quantity;
 
-// An across reading for every row, told by the row and by its number among the rows.
+// Readings from which each row has its across reading, told by the row's number and by the row.
 pub trait Across<K> {
     ghost reading: { Self → ℕ → Row ℕ → K };
 
-    fn reading(&self, j: usize, row: Row) -> K
-        ensures { result ≡ reading self.now j row };
+    fn reading(&self, k: usize, row: Row) -> K
+        ensures { result ≡ reading self.now k row };
 }
 
-// One reading for each variable: that of a row is the reading of its across variable. A variable beyond
-// the list reads zero.
+// One reading for each variable: a row has the reading of its across variable. A variable beyond the list
+// reads zero.
 #[derive(Clone, Copy)]
 pub struct ByVariable<'a, K> {
     pub values: &'a [K],
 }
 
 impl<K: Quantity> Across<K> for ByVariable<'_, K> {
-    ghost reading = { λ readings j row. read K.group readings.values.now (across_of row) };
+    ghost reading = { λ across k row. read K.group across.values.now (across_of row) };
 
-    fn reading(&self, _j: usize, row: Row) -> K {
+    fn reading(&self, _k: usize, row: Row) -> K {
         match self.values.get(row.across()) {
             Some(value) => *value,
             None => K::zero(),

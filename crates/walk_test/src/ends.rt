@@ -5,8 +5,8 @@ ghost use Rattle.walk_test.specs.Drawn.{is_drawn};
 
 use netlist::rows::Row;
 
-// All earths lead to one earth point.
-const EARTH: usize = 0;
+// There is one earth point for all earths.
+pub const EARTH: usize = 0;
 
 // A row leads from its tail to its head.
 #[derive(Clone, Copy)]

@@ -8,7 +8,7 @@ ghost use Rattle.walk_test.specs.Potentials.{potential_at};
 ghost use Rattle.walk_test.specs.Tested.{network_with};
 
 use super::across::Across;
-use super::ends::Ends;
+use super::ends::{EARTH, Ends};
 use netlist::rows::Row;
 use quantity::{Quantity, difference};
 
@@ -17,7 +17,7 @@ fn potential<K: Quantity>(potentials: &[K], v: usize) -> K
     requires { v < length potentials.now + 1 }
     ensures { result ≡ potential_at K.group potentials.now v }
 {
-    if v == 0 {
+    if v == EARTH {
         return K::zero();
     }
     potentials[v - 1]
@@ -56,8 +56,9 @@ fn relabel<K: Quantity>(
     }
 }
 
-// Takes row k to the rows before it, whose parts have labels and potentials. A row between two parts joins them: the one
-// with the higher label moves, so that the row fits. A row inside a part is tested: false says that it leaves over a closed walk.
+// Takes row k to the rows before it. Where it leads between two parts, the one with the higher label moves,
+// so that its reading fits. Where it stays inside a part its reading is tested: false says that with this row
+// some closed walk does not add up to zero.
 pub fn join<K: Quantity, A: Across<K>>(
     rows: &[Row],
     across: &A,

@@ -12,7 +12,7 @@ use super::workspaces::Workspace;
 use netlist::rows::Row;
 use quantity::Quantity;
 
-// Takes the rows in order. Where one leaves over a closed walk, all potentials are set to zero.
+// Takes the rows in order, up to the first with which some closed walk does not add up to zero.
 fn take_rows<K: Quantity, A: Across<K>>(
     rows: &[Row],
     across: &A,
@@ -33,8 +33,9 @@ fn take_rows<K: Quantity, A: Across<K>>(
     Finding::Balanced
 }
 
-// Whether each closed walk along the rows adds up to zero. If so, the potentials of the nodes satisfy the rows, with zero at
-// the earth point, and at the lowest node of each part without an earth; otherwise they are zero. It needs no memory.
+// Tells whether every closed walk along the rows adds up to zero. If so, the potentials are filled, one for
+// each node: they satisfy the rows, with zero at the earth point and at the lowest node of each part without
+// an earth, and nothing else does. If not, they are all zero. A misfit changes nothing.
 pub fn test_walks<K: Quantity, A: Across<K>>(
     rows: &[Row],
     across: &A,

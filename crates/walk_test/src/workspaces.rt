@@ -5,13 +5,14 @@ use std::marker::Model;
 // The most nodes that a sheet has.
 pub const MAX_NODES: usize = 1000;
 
-// Memory for the labels of the largest sheet's vertices. It is made once, and used again for every set of readings.
+// Memory for the labels of the earth point and of the nodes of the largest sheet. It is made once, and used
+// again for every set of readings.
 #[derive(Drop)]
 pub struct Workspace {
     pub(crate) labels: Vec<usize>,
 }
 
-// What it holds is of no matter to a caller: each test begins anew.
+// What it holds is of no matter to callers, since each test begins anew: so they see nothing in it.
 impl Model for Workspace {
     ghost use Rattle.std.specs.Prelude.{◌≡◌, ⊤, vec_len};
 
