@@ -18,6 +18,7 @@ drawn_ends : (n : ℕ) (row : Row ℕ) → not (is_drawn n row) ≡ false → (t
 drawn_ends n (Branch flow across first second) e = both_below first second n e
 drawn_ends n (Earth flow across node) e = below node n e
 
+-- the search for an undrawn row came to the end
 none_undrawn : (rows : List (Row ℕ)) (n : ℕ) → judged rows n ≡ Ok tt → length rows ≤ position_or_len (λ row. not (is_drawn n row)) rows
 none_undrawn rows n e = grind (arith, nat_tests)
 

@@ -10,6 +10,7 @@ module _ {G : Type 0} (𝓖 : Group G) (ps : List G) where
   node_potential i = ap (potential_at 𝓖 ps) (add-one i)
 
 module _ {G : Type 0} (𝓖 : Group G) (ps : List G) (i : ℕ) (x : G) where
+  -- a write changes the potential of its own vertex, and of no other
   set_here : i < length ps → potential_at 𝓖 (set ps i x) (i + 1) ≡ x
   set_here l = node_potential 𝓖 (set ps i x) i ∙ get_or-set_same ps i x 𝓖.zero l
 
@@ -24,6 +25,7 @@ module _ {G : Type 0} (𝓖 : Group G) (from to : ℕ) (shift : G) (ls : List �
     pub above : (u : ℕ) → v ≤ u → (slice_index ls' u ≡ slice_index ls u) × (potential_at 𝓖 ps' u ≡ potential_at 𝓖 ps u)
 
   module _ (v : ℕ) (ls' : List ℕ) (ps' : List G) (so-far : Moving v ls' ps') where
+    -- a vertex of another part stays
     pub keeps : slice_index ls' v ≢ from → Moving (v + 1) ls' ps'
     keeps other =
         let here = so-far.above v (omega arith) in
@@ -36,6 +38,7 @@ module _ {G : Type 0} (𝓖 : Group G) (from to : ℕ) (shift : G) (ls : List �
         }
 
   module _ (i : ℕ) (ls' : List ℕ) (ps' : List G) (so-far : Moving (i + 1) ls' ps') where
+    -- node i is of the part, and moves
     pub moves : (x : G) → i + 1 < length ls' → i < length ps' → slice_index ls' (i + 1) ≡ from → x ≡ 𝓖.sum (get_or ps' i 𝓖.zero) shift → Moving (i + 1 + 1) (set ls' (i + 1) to) (set ps' i x)
     moves x lls lps this raised =
         let here = so-far.above (i + 1) (omega arith) in
