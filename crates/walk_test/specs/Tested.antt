@@ -23,3 +23,7 @@ Found 𝓖 R m potentials (Unbalanced k) = Refuted 𝓖 R m k × (potentials ≡
 abbrev pub Tested : {G : Type 0} → Group G → List (Row ℕ) → Network G → List G → List G → Result Finding Misfit → Type 0
 Tested 𝓖 rows R old new (Ok finding) = (judged rows (length old) ≡ Ok tt) × (length new ≡ length old) × Found 𝓖 R (length rows) new finding
 Tested 𝓖 rows R old new (Err why) = (judged rows (length old) ≡ Err why) × (new ≡ old)
+
+-- THEOREM: rows and their readings have one answer, and one list of potentials goes with it
+abbrev pub OneAnswer : {G : Type 0} → Group G → Type 0
+OneAnswer {G} 𝓖 = (rows : List (Row ℕ)) (R : Network G) (old new new' : List G) (answer answer' : Result Finding Misfit) → Tested 𝓖 rows R old new answer → Tested 𝓖 rows R old new' answer' → (answer ≡ answer') × (new ≡ new')

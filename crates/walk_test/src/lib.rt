@@ -13,5 +13,5 @@ mod workspaces;
 pub use across::{Across, ByVariable};
 pub use findings::{Finding, Misfit};
 pub use starting::clear;
-pub use testing::test_walks;
+pub use testing::{one_answer, test_walks};
 pub use workspaces::{MAX_NODES, Workspace};

@@ -1,7 +1,7 @@
 // The walk test of rows and their readings.
 ghost use Rattle.std.specs.Prelude.{◌≡◌, ◌<◌, length};
 ghost use Rattle.network.specs.Walks.{Drawn};
-ghost use Rattle.walk_test.specs.Tested.{network_with, Found, Tested};
+ghost use Rattle.walk_test.specs.Tested.{network_with, Found, Tested, OneAnswer};
 
 use super::across::Across;
 use super::findings::{Finding, Misfit};
@@ -47,3 +47,9 @@ pub fn test_walks<K: Quantity, A: Across<K>>(
     judge(rows, potentials.len())?;
     Ok(take_rows(rows, across, &mut workspace.labels, potentials))
 }
+
+// `test_walks` is left no choice: rows and their readings have one answer, and one list of potentials goes
+// with it. This computes nothing: the theorem is the contract.
+pub fn one_answer<K: Quantity>()
+    ensures { OneAnswer K.group }
+{}
