@@ -1,4 +1,4 @@
-// Lists and prints a sheet at all its limits, and places assemblies. How much that is goes to standard output,
+// Lists and prints a sheet at all its limits, tests the walks along its rows, and places assemblies. How much that is goes to standard output,
 // and how long it took to standard error.
 #![tactic(auto)]
 
@@ -9,10 +9,12 @@ use netlist::spans::Span;
 use netlist::terms::{RawTerm, Term};
 use parts::single::Single;
 use place::place;
+use quantity::{Quantity, Whole};
 use repeat::Repeat;
 use sheet::{Draft, Sheet};
 use std::alloc::Global;
 use std::time::Instant;
+use walk_test::{ByVariable, Finding, Workspace, test_walks};
 
 const ASKED: usize = 100_000;
 
@@ -70,6 +72,28 @@ fn print(rt: &HostRuntime, sheet: &Sheet) -> anyhow::Result<()> {
     Ok(())
 }
 
+// Tests the walks along all rows, with every reading at zero.
+fn walk(rt: &HostRuntime, sheet: &Sheet) -> anyhow::Result<()> {
+    let values = vec![in rt.alloc(); Whole::zero(); sheet.variables()]?;
+    let mut potentials = vec![in rt.alloc(); Whole::zero(); sheet.nodes()]?;
+    let mut workspace = Workspace::new(rt.alloc())?;
+    let across = ByVariable {
+        values: values.as_slice(),
+    };
+    let began = Instant::now(rt)?;
+    let found = test_walks(
+        sheet.rows(),
+        &across,
+        potentials.as_mut_slice(),
+        &mut workspace,
+    );
+    let took = began.elapsed(rt)?;
+    let balanced = found == Ok(Finding::Balanced);
+    println!(rt; "walks add up to zero: {balanced}")?;
+    eprintln!(rt; "walks tested in {took:?}")?;
+    Ok(())
+}
+
 // Places a ring of 1,000 singles, each with a law of four terms.
 fn place_ring(rt: &HostRuntime, ring: &Repeat<Single>) -> anyhow::Result<()> {
     let mut draft = Draft::new(rt.alloc())?;
@@ -102,6 +126,7 @@ fn run(rt: &HostRuntime) -> anyhow::Result<()> {
     let sheet = largest(rt.alloc())?;
     list(rt, &sheet)?;
     print(rt, &sheet)?;
+    walk(rt, &sheet)?;
     let part = Single {
         domain: 2,
         flow: 1,
