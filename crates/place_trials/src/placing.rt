@@ -135,26 +135,32 @@ fn same(one: &Sheet, other: &Sheet) -> bool {
         && one.laws().terms == other.laws().terms
 }
 
-// A place that is refused leaves all that was drawn, and what is drawn after it, as it is.
+// Fills a draft up to its last node: the chain has four, and a ring of 997 parts has 996 inner nodes.
+fn fill(draft: &mut Draft) -> Result<Counts, Refusal> {
+    drawn(draft)?;
+    let ring = Repeat {
+        part: SPRING,
+        times: 997,
+    };
+    place(draft, &ring, 0, 0)
+}
+
+// A place that is refused leaves a full draft, and what is drawn after it, as it is.
 #[test]
 fn refused_place_leaves_the_draft(rt: HostRuntime) -> Result<(), Fail> {
-    let long = Repeat {
-        part: SPRING,
-        times: 1000,
+    let full = Refusal::Limit {
+        table: Table::Nodes,
     };
     let mut draft = started(rt.alloc())?;
-    drawn(&mut draft)?;
-    assert_eq!(rt;
-        place(&mut draft, &long, 1, 0),
-        Err(Refusal::Limit {
-            table: Table::Nodes,
-        })
-    );
+    fill(&mut draft)?;
+    assert_eq!(rt; place(&mut draft, &CHAIN, 1, 0), Err(full));
     assert_eq!(rt; place(&mut draft, &NO_CHAIN, 0, 1), Err(Refusal::Void));
-    place(&mut draft, &CHAIN, 1, 0)?;
+    place(&mut draft, &SPRING, 1, 0)?;
     let mut plain = started(rt.alloc())?;
-    drawn(&mut plain)?;
-    place(&mut plain, &CHAIN, 1, 0)?;
-    assert!(rt; same(&draft.issue(), &plain.issue()));
+    fill(&mut plain)?;
+    place(&mut plain, &SPRING, 1, 0)?;
+    let sheet = draft.issue();
+    assert_eq!(rt; sheet.nodes(), 1000);
+    assert!(rt; same(&sheet, &plain.issue()));
     Ok(())
 }
