@@ -12,7 +12,7 @@ use Rattle.sheet.specs.Counting.{room_tests}
 use Rattle.assembly.specs.Meaning.{Plan}
 use Rattle.plan_judging.specs.Alone.{judge_rows, judge_laws}
 use Rattle.place.specs.Moved.{moved_rows, moved_laws, widened}
-use Rattle.place.specs.Place.{node_tests, end_tests, plan_counts, judge_ends, judge_limits, judge_plan}
+use Rattle.place.specs.Place.{drawn_tests, end_tests, plan_counts, judge_ends, judge_limits, judge_plan}
 use Rattle.assembly_laws.proofs.Passing.{neither, all_pass}
 
 pub term_count_append : {X : Type 0} (xs ys : List (List X)) → term_count (xs ++ ys) ≡ term_count xs + term_count ys
@@ -45,7 +45,7 @@ pub record Fits (b : Netlist) (p q : ℕ) (x y : Domain) (a : Plan) : Type 0 whe
 
 module _ (b : Netlist) (p q : ℕ) (x y : Domain) (a : Plan) (ends : a.ends ≡ x ∷ y ∷ []) where
   abbrev tests : List Domain → Tests
-  tests es = node_tests b.domains 0 (p ∷ q ∷ []) ++ end_tests b.domains 0 es (p ∷ q ∷ [])
+  tests es = drawn_tests b.domains 0 (p ∷ q ∷ []) ++ end_tests b.domains 0 es (p ∷ q ∷ [])
 
   pub fits_from : judge_plan b (p ∷ q ∷ []) a ≡ None → Fits b p q x y a
   fits_from h =

@@ -16,7 +16,7 @@ use Rattle.assembly.specs.Meaning.{Meaning, void, plan, Plan, Bounded, Proper, s
 use Rattle.plan_judging.specs.Alone.{judge_rows, judge_laws, judge_alone, judge_assembly}
 use Rattle.place.specs.Moved.{moved_row, moved_rows, moved_laws, widened, with_plan}
 use Rattle.place.specs.Parts.{plan_of, judge_void_ends}
-use Rattle.place.specs.Place.{node_tests, end_tests, judge_ends, judge_limits, judge_plan, judge_place, with_assembly}
+use Rattle.place.specs.Place.{drawn_tests, end_tests, judge_ends, judge_limits, judge_plan, judge_place, with_assembly}
 use Rattle.place.proofs.Matching.{Meets, rows_there, laws_there}
 
 or_assoc : (o p q : Option Refusal) → option_or o (option_or p q) ≡ option_or (option_or o p) q
@@ -38,13 +38,13 @@ limits_are b (plan p) size h =
 module _ (b : Netlist) (sound : Sound b) (first second : ℕ) where
   -- the plan's rows are judged on the netlist as on the plan
   there : (ends inner : List Domain) (n : ℕ) (rows : List (Row ℕ)) → length ends ≡ 2
-      → first_of (node_tests b.domains 0 (first ∷ second ∷ []) ++ end_tests b.domains 0 ends (first ∷ second ∷ [])) ≡ None
+      → first_of (drawn_tests b.domains 0 (first ∷ second ∷ []) ++ end_tests b.domains 0 ends (first ∷ second ∷ [])) ≡ None
       → judge_rows (record { domains = map domain_number (ends ++ inner); variables = n; rows = []; laws = [] }) 0 rows
       ≡ judge_rows (record { domains = b.domains ++ map domain_number inner; variables = b.variables + n; rows = b.rows; laws = b.laws }) 0 (map (moved_row (length b.domains) b.variables (first ∷ second ∷ [])) rows)
   there [] inner n rows two h = absurd (omega (arith, two))
   there (d ∷ []) inner n rows two h = absurd (omega (arith, two))
   there (d ∷ e ∷ []) inner n rows two h =
-      let t = passes (node_tests b.domains 0 (first ∷ second ∷ []) ++ end_tests b.domains 0 (d ∷ e ∷ []) (first ∷ second ∷ [])) h in
+      let t = passes (drawn_tests b.domains 0 (first ∷ second ∷ []) ++ end_tests b.domains 0 (d ∷ e ∷ []) (first ∷ second ∷ [])) h in
       let meets : Meets b.domains first second d e = record {
         first_drawn = leb-false _ _ t.0;
         second_drawn = leb-false _ _ t.1.0;

@@ -7,7 +7,7 @@ use Rattle.netlist.specs.Rules.{first_of}
 use Rattle.assembly.specs.Meaning.{Meaning, void, plan, Proper, domains_of}
 use Rattle.assembly.proofs.Nth.{nth_append_right}
 use Rattle.place.specs.Parts.{plan_of, judge_void_ends, two_tests}
-use Rattle.place.specs.Place.{node_tests, end_tests}
+use Rattle.place.specs.Place.{drawn_tests, end_tests}
 
 pub inner_at : (m : Meaning) (j : ℕ) → Proper m → slice_get (domains_of m) (2 + j) ≡ slice_get (plan_of m).inner j
 inner_at void j proper = refl
@@ -15,7 +15,7 @@ inner_at (plan p) j proper =
     nth_append_right p.ends p.inner (2 + j) (omega (arith, proper.two_ends)) ∙ ap (slice_get p.inner) (omega (arith, proper.two_ends))
 
 -- the tests of the ends, of an assembly that tells their domains
-two_ends : (ends inner : List Domain) (domains : List ℕ) (first second : ℕ) (d e : Domain) → length ends ≡ 2 → slice_get (ends ++ inner) 0 ≡ Some d → slice_get (ends ++ inner) 1 ≡ Some e → first_of (node_tests domains 0 (first ∷ second ∷ []) ++ end_tests domains 0 ends (first ∷ second ∷ [])) ≡ first_of (two_tests domains first second d e)
+two_ends : (ends inner : List Domain) (domains : List ℕ) (first second : ℕ) (d e : Domain) → length ends ≡ 2 → slice_get (ends ++ inner) 0 ≡ Some d → slice_get (ends ++ inner) 1 ≡ Some e → first_of (drawn_tests domains 0 (first ∷ second ∷ []) ++ end_tests domains 0 ends (first ∷ second ∷ [])) ≡ first_of (two_tests domains first second d e)
 two_ends [] inner domains first second d e two h k = absurd (omega (arith, two))
 two_ends (x ∷ []) inner domains first second d e two h k = absurd (omega (arith, two))
 two_ends (x ∷ y ∷ []) inner domains first second d e two h k =

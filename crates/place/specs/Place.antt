@@ -15,9 +15,9 @@ use Rattle.plan_judging.specs.Alone.{judge_rows, judge_laws}
 use Rattle.place.specs.Moved.{moved_rows, moved_laws, widened, with_plan}
 
 -- the nodes given for the ends in turn, the first of them end i: each is drawn
-abbrev pub node_tests : List ℕ → ℕ → List ℕ → Tests
-node_tests domains i [] = []
-node_tests domains i (node ∷ given) = (no_node domains node, NoNode (End i)) ∷ node_tests domains (i + 1) given
+abbrev pub drawn_tests : List ℕ → ℕ → List ℕ → Tests
+drawn_tests domains i [] = []
+drawn_tests domains i (node ∷ given) = (no_node domains node, NoNode (End i)) ∷ drawn_tests domains (i + 1) given
 
 -- and each has the domain of its end
 abbrev pub end_tests : List ℕ → ℕ → List Domain → List ℕ → Tests
@@ -31,7 +31,7 @@ abbrev pub plan_counts : Plan → Counts
 plan_counts p = record { nodes = length p.inner; variables = p.variables; rows = length p.rows; laws = length p.laws }
 
 abbrev pub judge_ends : Netlist → List ℕ → Plan → Option Refusal
-judge_ends b given p = first_of (node_tests b.domains 0 given ++ end_tests b.domains 0 p.ends given)
+judge_ends b given p = first_of (drawn_tests b.domains 0 given ++ end_tests b.domains 0 p.ends given)
 
 abbrev pub judge_limits : Netlist → Plan → Option Refusal
 judge_limits b p = first_of (room_tests b (plan_counts p) (term_count p.laws))
