@@ -12,7 +12,7 @@ use Rattle.sheet.specs.Counting.{room_tests}
 use Rattle.assembly.specs.Meaning.{Plan}
 use Rattle.plan_judging.specs.Alone.{judge_rows, judge_laws}
 use Rattle.place.specs.Moved.{moved_rows, moved_laws, widened}
-use Rattle.place.specs.Place.{drawn_tests, end_tests, plan_counts, judge_ends, judge_limits, judge_plan}
+use Rattle.place.specs.Place.{drawn_tests, end_tests, plan_counts, judge_ends, judge_limits, judge_placing}
 use Rattle.assembly_laws.proofs.Passing.{neither, all_pass}
 
 pub term_count_append : {X : Type 0} (xs ys : List (List X)) → term_count (xs ++ ys) ≡ term_count xs + term_count ys
@@ -47,7 +47,7 @@ module _ (b : Netlist) (p q : ℕ) (x y : Domain) (a : Plan) (ends : a.ends ≡ 
   abbrev tests : List Domain → Tests
   tests es = drawn_tests b.domains 0 (p ∷ q ∷ []) ++ end_tests b.domains 0 es (p ∷ q ∷ [])
 
-  pub fits_from : judge_plan b (p ∷ q ∷ []) a ≡ None → Fits b p q x y a
+  pub fits_from : judge_placing b (p ∷ q ∷ []) a ≡ None → Fits b p q x y a
   fits_from h =
       let s = neither (judge_ends b (p ∷ q ∷ []) a) _ h in
       let t = neither (judge_rows (widened b a) 0 (moved_rows b (p ∷ q ∷ []) a)) _ s.1 in
@@ -68,7 +68,7 @@ module _ (b : Netlist) (p q : ℕ) (x y : Domain) (a : Plan) (ends : a.ends ≡ 
         };
       }
 
-  pub fits_judged : Fits b p q x y a → judge_plan b (p ∷ q ∷ []) a ≡ None
+  pub fits_judged : Fits b p q x y a → judge_placing b (p ∷ q ∷ []) a ≡ None
   fits_judged f =
       let at : (node : ℕ) (end : Domain) → Seat b node end → not (eqb (get_or b.domains node 0) (domain_number end)) ≡ false =
       λ node end s. not_from_true _ (eq-eqb _ _ s.alike) in

@@ -9,7 +9,7 @@ use Rattle.netlist.proofs.Rooms.{node_left}
 use Rattle.assembly.specs.Meaning.{void, plan, Plan, size_in, is_small}
 use Rattle.layers.proofs.Ends.{by_both_ends}
 use Rattle.series.specs.Series.{series, meet}
-use Rattle.place.specs.Place.{judge_place, judge_plan, with_assembly}
+use Rattle.place.specs.Place.{judge_place, judge_placing, with_assembly}
 use Rattle.assembly_laws.specs.ButNodes.{SameButNodes}
 use Rattle.assembly_laws.specs.Placed.{joint_before, joint_behind, with_both, FitOneByOne, SeriesFitsAsItsParts, SeriesIsDrawnAsItsParts}
 use Rattle.assembly_laws.proofs.Alike.{same_alike}
@@ -18,7 +18,7 @@ use Rattle.assembly_laws.proofs.Placing.{with_ends, one, other, whole, joined, f
 use Rattle.assembly_laws.proofs.Together.{small, meets, whole_fits}
 
 -- what is placed is not void
-placed_if : (b : Netlist) (given : List ℕ) (t : Bool) (w : Plan) → judge_place b (cond t (plan w) void) given ≡ None → (t ≡ true) × (judge_plan b given w ≡ None)
+placed_if : (b : Netlist) (given : List ℕ) (t : Bool) (w : Plan) → judge_place b (cond t (plan w) void) given ≡ None → (t ≡ true) × (judge_placing b given w ≡ None)
 placed_if b given true w h = (refl, h)
 placed_if b given false w h = absurd (cc)
 

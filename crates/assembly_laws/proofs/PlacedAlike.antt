@@ -18,7 +18,7 @@ use Rattle.assembly.specs.Meaning.{void, plan, Plan}
 use Rattle.assembly.proofs.Nth.{nth_append_right}
 use Rattle.plan_judging.specs.Alone.{judge_laws}
 use Rattle.plan_judging.specs.Terms.{law_from}
-use Rattle.place.specs.Place.{judge_plan}
+use Rattle.place.specs.Place.{judge_placing}
 use Rattle.place.specs.Moved.{moved_rows as placed_rows, moved_laws as placed_laws, widened, with_plan}
 use Rattle.assembly_laws.specs.ButNodes.{nodes_only, SameButNodes, PlanButNodes}
 use Rattle.assembly_laws.specs.PlacedAlike.{behind_drawn, FitAlike, AreDrawnAlike}
@@ -219,12 +219,12 @@ module _ (b : Netlist) (to back : ℕ → ℕ) (a c : Plan) (same : PlanButNodes
       }
 
 module _ (b : Netlist) (to back : ℕ → ℕ) (p q : ℕ) (a c : Plan) (same : PlanButNodes to back a c) (two : length a.ends ≡ 2) where
-  pub also_fits : judge_plan b (p ∷ q ∷ []) a ≡ None → judge_plan b (p ∷ q ∷ []) c ≡ None
+  pub also_fits : judge_placing b (p ∷ q ∷ []) a ≡ None → judge_placing b (p ∷ q ∷ []) c ≡ None
   also_fits h =
       let s = ends_are a.ends two in
       fits_judged b p q s.0 s.1 c (same.ends ∙ s.2) (fits_too b to back a c same p q s.0 s.1 s.2 (fits_from b p q s.0 s.1 a s.2 h))
 
-  pub also_drawn : Sound b → judge_plan b (p ∷ q ∷ []) a ≡ None → SameButNodes (behind_drawn (length b.domains) to) (behind_drawn (length b.domains) back) (with_plan b (p ∷ q ∷ []) a) (with_plan b (p ∷ q ∷ []) c)
+  pub also_drawn : Sound b → judge_placing b (p ∷ q ∷ []) a ≡ None → SameButNodes (behind_drawn (length b.domains) to) (behind_drawn (length b.domains) back) (with_plan b (p ∷ q ∷ []) a) (with_plan b (p ∷ q ∷ []) c)
   also_drawn sound h =
       let s = ends_are a.ends two in
       let f = fits_from b p q s.0 s.1 a s.2 h in

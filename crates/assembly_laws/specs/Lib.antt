@@ -1,3 +1,4 @@
+pub mod Alone
 pub mod Swapped
 pub mod ButNodes
 pub mod Twice

@@ -1,6 +1,7 @@
 // Laws of layers and of placing. Each theorem is the contract of a function, which computes nothing.
 #![tactic(auto)]
 
+ghost use Rattle.assembly_laws.specs.Alone.{JudgedAlone};
 ghost use Rattle.assembly_laws.specs.Twice.{TwiceIsSeries};
 ghost use Rattle.assembly_laws.specs.More.{OneCopyMore};
 ghost use Rattle.assembly_laws.specs.Associative.{SeriesIsAssociative};
@@ -42,4 +43,9 @@ pub fn fit_alike()
 // And they draw the same, but for the nodes' numbers.
 pub fn are_drawn_alike()
     ensures { AreDrawnAlike }
+{}
+
+// A plan is judged wherever it is placed as it is by itself.
+pub fn judged_alone()
+    ensures { JudgedAlone }
 {}

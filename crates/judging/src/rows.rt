@@ -4,14 +4,14 @@ ghost use Rattle.netlist.specs.Domains.{domain_number};
 ghost use Rattle.netlist.specs.Rules.{first_of, domain_of, row_tests};
 ghost use Rattle.judging.specs.Judging.{Accepts, Tells, node_tests, variable_tests};
 
-use crate::grounds::Ground;
+use crate::settings::Setting;
 use netlist::domains::Domain;
 use netlist::refusals::{Argument, Refusal};
 use netlist::rows::Row;
 
 // Judges the nodes and variables that a row names.
-pub fn judge_row<G: Ground>(ground: &G, row: Row) -> Result<(), Refusal>
-    ensures { Tells (first_of (row_tests (G.Ground.domains ground.now) (G.Ground.variables ground.now) (G.Ground.taken ground.now) row)) result }
+pub fn judge_row<G: Setting>(setting: &G, row: Row) -> Result<(), Refusal>
+    ensures { Tells (first_of (row_tests (G.Setting.domains setting.now) (G.Setting.variables setting.now) (G.Setting.taken setting.now) row)) result }
 {
     match row {
         Row::Branch {
@@ -20,9 +20,9 @@ pub fn judge_row<G: Ground>(ground: &G, row: Row) -> Result<(), Refusal>
             first,
             second,
         } => {
-            let first = find_node(ground, first, Argument::First)?;
-            let second = find_node(ground, second, Argument::Second)?;
-            judge_variables(ground, flow, across)?;
+            let first = find_node(setting, first, Argument::First)?;
+            let second = find_node(setting, second, Argument::Second)?;
+            judge_variables(setting, flow, across)?;
             if first != second {
                 return Err(Refusal::Domain {
                     argument: Argument::Second,
@@ -31,26 +31,30 @@ pub fn judge_row<G: Ground>(ground: &G, row: Row) -> Result<(), Refusal>
             Ok(())
         }
         Row::Earth { flow, across, node } => {
-            find_node(ground, node, Argument::Node)?;
-            judge_variables(ground, flow, across)
+            find_node(setting, node, Argument::Node)?;
+            judge_variables(setting, flow, across)
         }
     }
 }
 
 // The domain of a node that an argument names, if it is drawn.
-pub fn find_node<G: Ground>(ground: &G, node: usize, argument: Argument) -> Result<Domain, Refusal>
-    ensures { Accepts (first_of (node_tests (G.Ground.domains ground.now) node argument)) (λ domain. domain_of (G.Ground.domains ground.now) node ≡ domain_number domain) result }
+pub fn find_node<G: Setting>(
+    setting: &G,
+    node: usize,
+    argument: Argument,
+) -> Result<Domain, Refusal>
+    ensures { Accepts (first_of (node_tests (G.Setting.domains setting.now) node argument)) (λ domain. domain_of (G.Setting.domains setting.now) node ≡ domain_number domain) result }
 {
-    ground.domain(node).ok_or(Refusal::NoNode { argument })
+    setting.domain(node).ok_or(Refusal::NoNode { argument })
 }
 
-fn judge_variables<G: Ground>(ground: &G, flow: usize, across: usize) -> Result<(), Refusal>
-    ensures { Tells (first_of (variable_tests (G.Ground.variables ground.now) (G.Ground.taken ground.now) flow across)) result }
+fn judge_variables<G: Setting>(setting: &G, flow: usize, across: usize) -> Result<(), Refusal>
+    ensures { Tells (first_of (variable_tests (G.Setting.variables setting.now) (G.Setting.taken setting.now) flow across)) result }
 {
-    let flow_taken = ground.is_taken(flow).ok_or(Refusal::NoVariable {
+    let flow_taken = setting.is_taken(flow).ok_or(Refusal::NoVariable {
         argument: Argument::Flow,
     })?;
-    let across_taken = ground.is_taken(across).ok_or(Refusal::NoVariable {
+    let across_taken = setting.is_taken(across).ok_or(Refusal::NoVariable {
         argument: Argument::Across,
     })?;
     if flow_taken {

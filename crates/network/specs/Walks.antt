@@ -96,10 +96,10 @@ pub record Refuted {G : Type 0} (𝓖 : Group G) (R : Network G) (m k : ℕ) : T
 abbrev pub WalksAddToDifferences : {G : Type 0} → Group G → Type 0
 WalksAddToDifferences {G} 𝓖 = (R : Network G) (k : ℕ) (p : ℕ → G) → Satisfies 𝓖 R k p → (a b : ℕ) (s : List Step) → Walk R k a s b → total 𝓖 R s ≡ minus 𝓖 (p a) (p b)
 
--- THEOREM: so no closed walk is left over
+-- THEOREM: so every closed walk adds up to zero
 abbrev pub PotentialsBalance : {G : Type 0} → Group G → Type 0
 PotentialsBalance {G} 𝓖 = (R : Network G) (k : ℕ) (p : ℕ → G) → Satisfies 𝓖 R k p → Balanced 𝓖 R k
 
--- THEOREM: and where no closed walk is left over there are potentials
+-- THEOREM: and where every closed walk adds up to zero there are potentials
 abbrev pub BalanceHasPotentials : {G : Type 0} → Group G → Type 0
 BalanceHasPotentials {G} 𝓖 = (R : Network G) (n m : ℕ) → Within R n m → Balanced 𝓖 R m → (p : ℕ → G) × Solved 𝓖 R n m p

@@ -16,7 +16,7 @@ use Rattle.assembly.specs.Meaning.{Meaning, void, plan, Plan, Bounded, Proper, s
 use Rattle.plan_judging.specs.Alone.{judge_rows, judge_laws, judge_alone, judge_assembly}
 use Rattle.place.specs.Moved.{moved_row, moved_rows, moved_laws, widened, with_plan}
 use Rattle.place.specs.Parts.{plan_of, judge_void_ends}
-use Rattle.place.specs.Place.{drawn_tests, end_tests, judge_ends, judge_limits, judge_plan, judge_place, with_assembly}
+use Rattle.place.specs.Place.{drawn_tests, end_tests, judge_ends, judge_limits, judge_placing, judge_place, with_assembly}
 use Rattle.place.proofs.Matching.{Meets, rows_there, laws_there}
 
 or_assoc : (o p q : Option Refusal) → option_or o (option_or p q) ≡ option_or (option_or o p) q
@@ -58,7 +58,7 @@ module _ (b : Netlist) (sound : Sound b) (first second : ℕ) where
       → judge_alone p ≡ option_or (judge_rows (widened b p) 0 (moved_rows b (first ∷ second ∷ []) p)) (judge_laws (b.variables + p.variables) 0 (moved_laws b p))
   alone_there p bounded h = λ i. option_or (there p.ends p.inner p.variables p.rows bounded.two_ends h i) (laws_there b.variables p.variables 0 p.laws i)
 
-  plan_judged : (p : Plan) → Bounded p → judge_ends b (first ∷ second ∷ []) p ≡ None → judge_plan b (first ∷ second ∷ []) p ≡ option_or (judge_alone p) (judge_limits b p)
+  plan_judged : (p : Plan) → Bounded p → judge_ends b (first ∷ second ∷ []) p ≡ None → judge_placing b (first ∷ second ∷ []) p ≡ option_or (judge_alone p) (judge_limits b p)
   plan_judged p bounded h =
       let rows = judge_rows (widened b p) 0 (moved_rows b (first ∷ second ∷ []) p) in
       let laws = judge_laws (b.variables + p.variables) 0 (moved_laws b p) in
@@ -67,7 +67,7 @@ module _ (b : Netlist) (sound : Sound b) (first second : ℕ) where
       ∙ or_assoc rows laws limits
       ∙ ap (λ (o : Option Refusal). option_or o limits) (sym (alone_there p bounded h))
 
-  place_judged : (m : Meaning) → Proper m → judge_void_ends b (first ∷ second ∷ []) m ≡ None → judge_place b m (first ∷ second ∷ []) ≡ option_or (judge_assembly m) (judge_limits b (plan_of m))
+  pub place_judged : (m : Meaning) → Proper m → judge_void_ends b (first ∷ second ∷ []) m ≡ None → judge_place b m (first ∷ second ∷ []) ≡ option_or (judge_assembly m) (judge_limits b (plan_of m))
   place_judged void proper h = let z : ◌≡◌ {A = ℕ} 0 1 = cc in absurd (omega arith)
   place_judged (plan p) proper h = plan_judged p proper h
 

@@ -2,12 +2,20 @@
 use Rattle.std.proofs.Common.{◌≡◌, ℕ, ◌+◌, List, [], ◌∷◌, ◌++◌, length, Some, refl, ap, ◌∙◌, arith}
 use Rattle.std.specs.List.{slice_get}
 use Rattle.netlist.specs.declared.domains.Domain.{Domain}
+use Rattle.netlist.specs.declared.refusals.Argument.TheVariants.{End}
 use Rattle.netlist.specs.Netlist.{Netlist}
-use Rattle.netlist.specs.Rules.{first_of}
+use Rattle.netlist.specs.Rules.{Tests, first_of, domain_of}
+use Rattle.judging.specs.Judging.{node_tests}
 use Rattle.assembly.specs.Meaning.{Meaning, void, plan, Proper, domains_of}
 use Rattle.assembly.proofs.Nth.{nth_append_right}
-use Rattle.place.specs.Parts.{plan_of, judge_void_ends, two_tests}
+use Rattle.place.specs.Parts.{plan_of, judge_void_ends, domain_tests}
 use Rattle.place.specs.Place.{drawn_tests, end_tests}
+
+-- the tests of two nodes at ends of these domains
+abbrev pub two_tests : List ℕ → ℕ → ℕ → Domain → Domain → Tests
+two_tests domains first second d e =
+    (node_tests domains first (End 0) ++ node_tests domains second (End 1))
+    ++ (domain_tests (domain_of domains first) d (End 0) ++ domain_tests (domain_of domains second) e (End 1))
 
 pub inner_at : (m : Meaning) (j : ℕ) → Proper m → slice_get (domains_of m) (2 + j) ≡ slice_get (plan_of m).inner j
 inner_at void j proper = refl

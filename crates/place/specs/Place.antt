@@ -38,8 +38,8 @@ judge_limits b p = first_of (room_tests b (plan_counts p) (term_count p.laws))
 
 -- The ends; then the rows as they will be drawn, on the netlist with the plan's inner nodes and variables;
 -- then the laws; and last the limits.
-abbrev pub judge_plan : Netlist → List ℕ → Plan → Option Refusal
-judge_plan b given p =
+abbrev pub judge_placing : Netlist → List ℕ → Plan → Option Refusal
+judge_placing b given p =
     option_or (judge_ends b given p)
     (option_or (judge_rows (widened b p) 0 (moved_rows b given p))
     (option_or (judge_laws (b.variables + p.variables) 0 (moved_laws b p)) (judge_limits b p)))
@@ -47,7 +47,7 @@ judge_plan b given p =
 -- place(assembly, nodes), with a node for each end
 abbrev pub judge_place : Netlist → Meaning → List ℕ → Option Refusal
 judge_place b void given = Some Void
-judge_place b (plan p) given = judge_plan b given p
+judge_place b (plan p) given = judge_placing b given p
 
 -- the netlist with all that the assembly adds
 abbrev pub with_assembly : Netlist → Meaning → List ℕ → Netlist

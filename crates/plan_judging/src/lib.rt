@@ -7,9 +7,9 @@ ghost use Rattle.judging.specs.Judging.{Accepts};
 ghost use Rattle.assembly.specs.Meaning.{laws_of};
 ghost use Rattle.plan_judging.specs.Alone.{judge_assembly};
 
-mod ground;
 mod laws;
 mod rows;
+mod setting;
 pub mod terms;
 
 use assembly::Assembly;

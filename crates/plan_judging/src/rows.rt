@@ -5,7 +5,7 @@ ghost use Rattle.judging.specs.Judging.{Tells};
 ghost use Rattle.assembly.specs.Meaning.{domains_of, rows_of};
 ghost use Rattle.plan_judging.specs.Alone.{judge_rows};
 
-use crate::ground::PlanGround;
+use crate::setting::PlanSetting;
 use assembly::Assembly;
 use judging::rows::judge_row;
 use netlist::refusals::Refusal;
@@ -24,8 +24,8 @@ pub(crate) fn judge_rows<A: Assembly>(
     taken.fill(false);
     for k in 0..rows {
         let row = Row::from(part.row(k).unwrap());
-        let ground = PlanGround { part, taken };
-        if let Err(why) = judge_row(&ground, row) {
+        let setting = PlanSetting { part, taken };
+        if let Err(why) = judge_row(&setting, row) {
             return Err(Refusal::PlanRow {
                 row: k as u16,
                 cause: why.number(),

@@ -11,7 +11,7 @@ use Rattle.network.specs.Balances.{Balances}
 use Rattle.network.specs.Flows.{SetsKeep}
 use Rattle.network.specs.Laws.{law_sum, LawsHold}
 use Rattle.network.specs.Walks.{Balanced, read, no_row, row_at, tail_of, head_of, network_of}
-use Rattle.plants.specs.Agreeing.{ReadAlike, PlantsAgree}
+use Rattle.plants.specs.Agreeing.{ReadAlike, PlantsAgree, PartsAgree}
 use Rattle.plants.proofs.Listing.{all_at, all_weaker, all_both, all_of_flat, place_of}
 use Rattle.plants.proofs.Renaming.{of_row, of_law, vertex, tail_renamed, head_renamed, across_renamed}
 use Rattle.plants.proofs.Occurring.{by_rows, by_laws}
@@ -73,3 +73,13 @@ module _ {G : Type 0} (𝓖 : Group G) where
         balances_back 𝓖 c b t.0 values' rates' values rates (turned values values' vs) (turned rates rates' rs),
         balances_back 𝓖 b c s values rates values' rates' vs rs,
       )
+
+  pub parts_agree : PartsAgree 𝓖
+  parts_agree b c s values rates values' rates' vs rs =
+      let t = alike_back b c s in
+      let turned = λ (old new : List G) (h : ReadAlike 𝓖 b s.there old new). subst (λ to. ReadAlike 𝓖 c to new old) (sym t.1) (read_back 𝓖 b c s old new h) in
+      record {
+        laws = (laws_back 𝓖 c b t.0 values' rates' values rates (turned values values' vs) (turned rates rates' rs), laws_back 𝓖 b c s values rates values' rates' vs rs);
+        sets = (sets_back 𝓖 c b t.0 values' values (turned values values' vs), sets_back 𝓖 b c s values values' vs);
+        walks = (walks_back 𝓖 c b t.0 values' values (turned values values' vs), walks_back 𝓖 b c s values values' vs);
+      }

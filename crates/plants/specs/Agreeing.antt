@@ -1,10 +1,12 @@
 -- Readings of netlists that are alike. Assumes nothing.
-use Rattle.std.specs.Prelude.{◌≡◌, List}
+use Rattle.std.specs.Prelude.{◌≡◌, List, length, ◌↔◌}
 use Rattle.std.specs.List.{AllByRecursion}
 use Rattle.quantity.specs.Group.{Group}
 use Rattle.netlist.specs.Netlist.{Netlist}
 use Rattle.netlist.specs.Alike.{Renaming, Alike, variables_in}
-use Rattle.network.specs.Walks.{read}
+use Rattle.network.specs.Flows.{SetsKeep}
+use Rattle.network.specs.Laws.{LawsHold}
+use Rattle.network.specs.Walks.{read, network_of, Balanced}
 use Rattle.network.specs.Balances.{Balances}
 use Rattle.plants.specs.Turning.{unchanged, onward}
 
@@ -15,6 +17,16 @@ ReadAlike 𝓖 b there old new = AllByRecursion (λ v. read 𝓖 new (there.vari
 -- THEOREM: readings agree with a netlist exactly if those that are read alike agree with a netlist that is alike
 abbrev pub PlantsAgree : {G : Type 0} → Group G → Type 0
 PlantsAgree {G} 𝓖 = (b c : Netlist) (s : Alike b c) (values rates values' rates' : List G) → ReadAlike 𝓖 b s.there values values' → ReadAlike 𝓖 b s.there rates rates' → (Balances 𝓖 b values rates → Balances 𝓖 c values' rates') × (Balances 𝓖 c values' rates' → Balances 𝓖 b values rates)
+
+-- the laws hold on both or on neither, and so with the sets of nodes and with the closed walks
+pub record PartsHoldAlike {G : Type 0} (𝓖 : Group G) (b c : Netlist) (values rates values' rates' : List G) : Type 0 where
+  pub laws : LawsHold 𝓖 b.laws values rates (length b.laws) ↔ LawsHold 𝓖 c.laws values' rates' (length c.laws)
+  pub sets : SetsKeep 𝓖 b.rows values ↔ SetsKeep 𝓖 c.rows values'
+  pub walks : Balanced 𝓖 (network_of 𝓖 b.rows values) (length b.rows) ↔ Balanced 𝓖 (network_of 𝓖 c.rows values') (length c.rows)
+
+-- THEOREM: so it is with readings that are read alike
+abbrev pub PartsAgree : {G : Type 0} → Group G → Type 0
+PartsAgree {G} 𝓖 = (b c : Netlist) (s : Alike b c) (values rates values' rates' : List G) → ReadAlike 𝓖 b s.there values values' → ReadAlike 𝓖 b s.there rates rates' → PartsHoldAlike 𝓖 b c values rates values' rates'
 
 -- THEOREM: under unchanged numbers the same readings are read alike
 abbrev pub ReadItself : {G : Type 0} → Group G → Type 0

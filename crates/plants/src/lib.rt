@@ -2,7 +2,7 @@
 // every kind of quantity. Each is the contract of a function, which computes nothing.
 #![tactic(auto)]
 
-ghost use Rattle.plants.specs.Agreeing.{PlantsAgree, ReadItself, ReadBack, ReadOnward};
+ghost use Rattle.plants.specs.Agreeing.{PlantsAgree, PartsAgree, ReadItself, ReadBack, ReadOnward};
 ghost use Rattle.plants.specs.Turning.{AlikeItself, AlikeBack, AlikeOnward};
 
 use quantity::Quantity;
@@ -24,4 +24,9 @@ pub fn readings_turn<K: Quantity>()
 // Readings agree with a netlist exactly if those that are read alike agree with a netlist that is alike.
 pub fn plants_agree<K: Quantity>()
     ensures { PlantsAgree K.Quantity.group }
+{}
+
+// And so it is with each part of that: laws, sets of nodes and closed walks.
+pub fn parts_agree<K: Quantity>()
+    ensures { PartsAgree K.Quantity.group }
 {}

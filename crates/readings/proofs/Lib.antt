@@ -1,3 +1,4 @@
 pub mod Drawing
 pub mod Evaluating
 pub mod Agreeing
+pub mod Turning

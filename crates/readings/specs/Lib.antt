@@ -1,2 +1,3 @@
 pub mod Readings
 pub mod Agreement
+pub mod Turned

@@ -6,6 +6,7 @@ ghost use Rattle.std.specs.Prelude.{◌≡◌};
 ghost use Rattle.network.specs.Walks.{read};
 ghost use Rattle.readings.specs.Agreement.{EquationsByPart, EquationsAgree};
 ghost use Rattle.readings.specs.Readings.{term_reading, equation_sum};
+ghost use Rattle.readings.specs.Turned.{EquationsTurn};
 
 use netlist::terms::Term;
 use quantity::Quantity;
@@ -49,3 +50,9 @@ pub fn equation_sum<K: Quantity>(
     }
     sum
 }
+
+// Potentials satisfy all equations of two netlists that are alike, or of neither. This computes nothing: the
+// theorem is the contract.
+pub fn equations_turn<K: Quantity>()
+    ensures { EquationsTurn K.Quantity.group }
+{}

@@ -39,8 +39,8 @@ fn flow_out<K: Quantity, F: Fn(usize) -> bool>(rows: &[Row], values: &[K], is_in
     ensures { (inside : ℕ → Bool) → IsTestOf inside (F.post is_inside) → result ≡ net_flow K.group rows.now values.now inside }
 {
     let mut sum = K::zero();
-    for row in rows {
-        sum = sum.sum(leaves(*row, values, &is_inside));
+    for k in 0..rows.len() {
+        sum = sum.sum(leaves(rows[k], values, &is_inside));
     }
     sum
 }

@@ -13,7 +13,7 @@ use Rattle.walk_test.specs.Potentials.{potential_at}
 abbrev pub network_with : {G : Type 0} → List (Row ℕ) → (ℕ → Row ℕ → G) → Network G
 network_with rows reading = record { tail = λ j. tail_of (row_at rows j); head = λ j. head_of (row_at rows j); reading = λ j. reading j (row_at rows j) }
 
--- every closed walk along the first m rows adds to zero, and the potentials are the one filling of the nodes;
+-- the potentials are the one filling of the nodes for the first m rows, so that every closed walk along them adds to zero;
 -- or row k is the lowest with which some closed walk does not, and every potential is zero
 abbrev pub Found : {G : Type 0} → Group G → Network G → ℕ → List G → Finding → Type 0
 Found 𝓖 R m potentials Balanced = Solved 𝓖 R (length potentials + 1) m (potential_at 𝓖 potentials)

@@ -6,17 +6,17 @@ ghost use Rattle.walk_test.specs.Drawn.{is_drawn};
 use netlist::rows::Row;
 
 // There is one earth point for all earths.
-pub const EARTH: usize = 0;
+pub(crate) const EARTH: usize = 0;
 
 // A row leads from its tail to its head.
 #[derive(Clone, Copy)]
-pub struct Ends {
+pub(crate) struct Ends {
     pub tail: usize,
     pub head: usize,
 }
 
 impl Ends {
-    pub fn of(row: Row) -> Ends
+    pub(crate) fn of(row: Row) -> Ends
         requires tail { tail_of row < 2 ^ 64 }
         requires head { head_of row < 2 ^ 64 }
         ensures tail { result.tail ≡ tail_of row }
@@ -36,7 +36,7 @@ impl Ends {
 }
 
 // Whether the row names none but the first `nodes` nodes.
-pub fn is_drawn(row: Row, nodes: usize) -> bool
+pub(crate) fn is_drawn(row: Row, nodes: usize) -> bool
     ensures { result ≡ is_drawn nodes row }
 {
     match row {

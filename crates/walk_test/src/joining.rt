@@ -7,8 +7,8 @@ ghost use Rattle.walk_test.specs.Joining.{SettledBy, MovedBy};
 ghost use Rattle.walk_test.specs.Potentials.{potential_at};
 ghost use Rattle.walk_test.specs.Tested.{network_with};
 
-use super::across::Across;
-use super::ends::{EARTH, Ends};
+use crate::across::Across;
+use crate::ends::{EARTH, Ends};
 use netlist::rows::Row;
 use quantity::{Quantity, difference};
 
@@ -59,7 +59,7 @@ fn relabel<K: Quantity>(
 // Takes row k to the rows before it. Where it leads between two parts, the one with the higher label moves,
 // so that its reading fits. Where it stays inside a part its reading is tested: false says that with this row
 // some closed walk does not add up to zero.
-pub fn join<K: Quantity, A: Across<K>>(
+pub(crate) fn join<K: Quantity, A: Across<K>>(
     rows: &[Row],
     across: &A,
     k: usize,

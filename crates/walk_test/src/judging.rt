@@ -2,9 +2,9 @@
 ghost use Rattle.std.specs.Prelude.{◌≡◌};
 ghost use Rattle.walk_test.specs.Drawn.{first_undrawn, judged};
 
-use super::ends::is_drawn;
-use super::findings::Misfit;
-use super::workspaces::MAX_NODES;
+use crate::ends::is_drawn;
+use crate::findings::Misfit;
+use crate::workspaces::MAX_NODES;
 use netlist::rows::Row;
 
 // The lowest row that names another than the first `nodes` nodes.
@@ -14,7 +14,7 @@ fn first_undrawn(rows: &[Row], nodes: usize) -> Option<usize>
     rows.iter().position(|row| !is_drawn(*row, nodes))
 }
 
-pub fn judge(rows: &[Row], nodes: usize) -> Result<(), Misfit>
+pub(crate) fn judge(rows: &[Row], nodes: usize) -> Result<(), Misfit>
     ensures { result ≡ judged rows.now nodes }
 {
     if nodes > MAX_NODES {

@@ -24,7 +24,7 @@ fn set_apart(labels: &mut [usize])
 }
 
 // Takes no row yet: each vertex is a part of its own, at zero.
-pub fn start<K: Quantity>(labels: &mut [usize], potentials: &mut [K])
+pub(crate) fn start<K: Quantity>(labels: &mut [usize], potentials: &mut [K])
     requires { length potentials.old < length labels.old }
     ensures { (R : Network K) → SettledBy K.group R 0 labels.new potentials.new }
 {

@@ -3,12 +3,12 @@ ghost use Rattle.std.specs.Prelude.{◌≡◌, ◌<◌, length};
 ghost use Rattle.network.specs.Walks.{Drawn};
 ghost use Rattle.walk_test.specs.Tested.{network_with, Found, Tested, OneAnswer};
 
-use super::across::Across;
-use super::findings::{Finding, Misfit};
-use super::joining::join;
-use super::judging::judge;
-use super::starting::{clear, start};
-use super::workspaces::Workspace;
+use crate::across::Across;
+use crate::findings::{Finding, Misfit};
+use crate::joining::join;
+use crate::judging::judge;
+use crate::starting::{clear, start};
+use crate::workspaces::Workspace;
 use netlist::rows::Row;
 use quantity::Quantity;
 

@@ -2,16 +2,16 @@
 ghost use Rattle.netlist.specs.Rules.{taken_by};
 
 use crate::drafts::{Draft, MAX_ROWS};
-use judging::grounds::Ground;
 use judging::laws::accept_terms;
 use judging::rows;
+use judging::settings::Setting;
 use netlist::domains::Domain;
 use netlist::refusals::{Refusal, Table};
 use netlist::rows::Row;
 use netlist::terms::{MOST_TERMS, RawTerm, Term};
 
 // Rows are judged on what has been drawn.
-impl Ground for Draft {
+impl Setting for Draft {
     ghost domains = { λ d. d.domains };
 
     ghost variables = { λ d. d.variables };

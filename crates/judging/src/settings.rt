@@ -5,7 +5,7 @@ ghost use Rattle.netlist.specs.Domains.{domain_number};
 use netlist::domains::Domain;
 
 // The nodes and the variables that a row may name, and which of the variables are taken.
-pub trait Ground {
+pub trait Setting {
     ghost domains: { Self → List ℕ };
 
     ghost variables: { Self → ℕ };

@@ -5,17 +5,17 @@ ghost use Rattle.netlist.specs.Flags.{flag_up};
 ghost use Rattle.assembly.specs.Meaning.{domains_of};
 
 use assembly::Assembly;
-use judging::grounds::Ground;
+use judging::settings::Setting;
 use netlist::domains::Domain;
 
 // `taken` has a flag for each variable, up where one of the rows before has it.
 #[derive(Clone, Copy)]
-pub(crate) struct PlanGround<'a, A> {
+pub(crate) struct PlanSetting<'a, A> {
     pub part: &'a A,
     pub taken: &'a [bool],
 }
 
-impl<'a, A: Assembly> Ground for PlanGround<'a, A> {
+impl<'a, A: Assembly> Setting for PlanSetting<'a, A> {
     ghost domains = { λ g. map domain_number (domains_of (A.Assembly.meaning g.part.now)) };
 
     ghost variables = { λ g. length g.taken.now };

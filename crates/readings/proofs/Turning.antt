@@ -1,0 +1,12 @@
+-- Equations of netlists that are alike.
+use Rattle.quantity.specs.Group.{Group}
+use Rattle.plants.proofs.Agreeing.{plants_agree}
+use Rattle.readings.specs.Turned.{EquationsTurn}
+use Rattle.readings.proofs.Agreeing.{equations_agree}
+
+pub equations_turn : {G : Type 0} (𝓖 : Group G) → EquationsTurn 𝓖
+equations_turn 𝓖 b c sb sc s values rates values' rates' vs rs =
+    let both = plants_agree 𝓖 b c s values rates values' rates' vs rs in
+    let here = equations_agree 𝓖 b sb values rates in
+    let there = equations_agree 𝓖 c sc values' rates' in
+    (λ h. there.1 (both.0 (here.0 h)), λ h. here.1 (both.1 (there.0 h)))

@@ -1,0 +1,15 @@
+-- The listed equations of netlists that are alike. Assumes nothing.
+use Rattle.std.specs.Prelude.{ℕ, ◌↔◌, List}
+use Rattle.quantity.specs.Group.{Group}
+use Rattle.netlist.specs.Alike.{Alike}
+use Rattle.netlist.specs.Netlist.{Netlist}
+use Rattle.netlist.specs.Sound.{Sound}
+use Rattle.plants.specs.Agreeing.{ReadAlike}
+use Rattle.readings.specs.Readings.{EquationsHold}
+
+-- THEOREM: of two sound netlists that are alike, with readings that are read alike, potentials satisfy all equations of
+-- both or of neither
+abbrev pub EquationsTurn : {G : Type 0} → Group G → Type 0
+EquationsTurn {G} 𝓖 = (b c : Netlist) → Sound b → Sound c → (s : Alike b c) (values rates values' rates' : List G)
+    → ReadAlike 𝓖 b s.there values values' → ReadAlike 𝓖 b s.there rates rates'
+    → ((p : ℕ → G) × EquationsHold 𝓖 b values rates p) ↔ ((p : ℕ → G) × EquationsHold 𝓖 c values' rates' p)
