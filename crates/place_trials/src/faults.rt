@@ -130,6 +130,64 @@ fn laws_of_the_plan(rt: HostRuntime) -> Result<(), Fail> {
     Ok(())
 }
 
+// A node that does not fit is told before a row, a row before a law, and the first law at fault.
+#[test]
+fn ends_before_rows_before_laws(rt: HostRuntime) -> Result<(), Fail> {
+    let mut draft = Draft::new(rt.alloc())?;
+    draw(&mut draft)?;
+    let rows = [BRANCH, BRANCH];
+    let laws = [
+        Span {
+            offset: 0,
+            length: 1,
+        },
+        Span {
+            offset: 1,
+            length: 1,
+        },
+    ];
+    let terms = [PlanTerm::value(1, 0), PlanTerm::value(0, 1)];
+    let twice = stored(&rows, &laws, &terms);
+    assert_eq!(rt; told(place(&mut draft, &twice, 0, 2)), Some((4, 3, 0)));
+    assert_eq!(rt; told(place(&mut draft, &twice, 0, 1)), Some((9, 1, 5)));
+    let once = stored(&rows[..1], &laws, &terms);
+    let counts = draft.counts();
+    assert_eq!(rt; told(place(&mut draft, &once, 0, 1)), Some((9, 10_001, 6)));
+    assert_eq!(rt; draft.counts(), counts);
+    Ok(())
+}
+
+// The lowest table that has no room is told.
+#[test]
+fn tables_in_their_order(rt: HostRuntime) -> Result<(), Fail> {
+    let mut draft = Draft::new(rt.alloc())?;
+    draw(&mut draft)?;
+    let right = Repeat {
+        part: SHAFT,
+        times: 900,
+    };
+    place(&mut draft, &right, 0, 1)?;
+    // 902 nodes, 1,802 variables, 901 rows and 900 laws of two terms are drawn.
+    let plan = Stored::new(Tables {
+        first: 2,
+        second: 2,
+        inner: &[],
+        variables: 2199,
+        rows: &[],
+        laws: &[],
+        terms: &[],
+    });
+    let variables = Refusal::Limit {
+        table: Table::Variables,
+    };
+    assert_eq!(rt; place(&mut draft, &plan, 0, 1), Err(variables));
+    let nodes = Refusal::Limit {
+        table: Table::Nodes,
+    };
+    assert_eq!(rt; place(&mut draft, &right, 0, 1), Err(nodes));
+    Ok(())
+}
+
 // What is wrong with a plan is told before that it finds no room.
 #[test]
 fn plan_before_room(rt: HostRuntime) -> Result<(), Fail> {

@@ -8,7 +8,6 @@ use parts::single::Single;
 use place::place;
 use repeat::Repeat;
 use sheet::{Counts, Draft, Sheet};
-use std::alloc::{AllocError, Global};
 use std::test::Fail;
 
 const SPRING: Single = Single {
@@ -44,11 +43,7 @@ fn chain_of_three(rt: HostRuntime) {
     assert!(rt; NO_CHAIN.is_void());
 }
 
-// Two nodes, an earth at the first, and between them what is placed.
-fn started(heap: Global) -> Result<Draft, AllocError> {
-    Draft::new(heap)
-}
-
+// Two nodes, an earth at the first, and between them the chain.
 fn drawn(draft: &mut Draft) -> Result<Counts, Refusal> {
     draft.node(3)?;
     draft.node(3)?;
@@ -60,7 +55,7 @@ fn drawn(draft: &mut Draft) -> Result<Counts, Refusal> {
 // The two joints are nodes 2 and 3, and the variables are counted on from 2.
 #[test]
 fn chain_lies_between_its_nodes(rt: HostRuntime) -> Result<(), Fail> {
-    let mut draft = started(rt.alloc())?;
+    let mut draft = Draft::new(rt.alloc())?;
     assert_eq!(rt;
         drawn(&mut draft)?,
         Counts {
@@ -104,7 +99,7 @@ fn ring_of_a_thousand(rt: HostRuntime) -> Result<(), Fail> {
         part: SPRING,
         times: 1000,
     };
-    let mut draft = started(rt.alloc())?;
+    let mut draft = Draft::new(rt.alloc())?;
     draft.node(3)?;
     place(&mut draft, &ring, 0, 0)?;
     let counts = draft.counts();
@@ -151,12 +146,12 @@ fn refused_place_leaves_the_draft(rt: HostRuntime) -> Result<(), Fail> {
     let full = Refusal::Limit {
         table: Table::Nodes,
     };
-    let mut draft = started(rt.alloc())?;
+    let mut draft = Draft::new(rt.alloc())?;
     fill(&mut draft)?;
     assert_eq!(rt; place(&mut draft, &CHAIN, 1, 0), Err(full));
     assert_eq!(rt; place(&mut draft, &NO_CHAIN, 0, 1), Err(Refusal::Void));
     place(&mut draft, &SPRING, 1, 0)?;
-    let mut plain = started(rt.alloc())?;
+    let mut plain = Draft::new(rt.alloc())?;
     fill(&mut plain)?;
     place(&mut plain, &SPRING, 1, 0)?;
     let sheet = draft.issue();

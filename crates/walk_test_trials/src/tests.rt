@@ -40,6 +40,25 @@ fn triangle_is_left_open_and_then_closed(rt: HostRuntime) -> Result<(), Fail> {
     Ok(())
 }
 
+// The row that is named closes a walk with those before it. What comes behind does not matter.
+#[test]
+fn rows_behind_do_not_matter(rt: HostRuntime) -> Result<(), Fail> {
+    let mut workspace = Workspace::new(rt.alloc())?;
+    let rows = [
+        branch(0, 0, 1),
+        branch(1, 0, 1),
+        branch(2, 1, 2),
+        earth(3, 2),
+    ];
+    let values = [Whole::new(3), Whole::new(4), Whole::new(1), Whole::new(1)];
+    let across = ByVariable { values: &values };
+    let mut potentials = [Whole::new(5); 3];
+    let found = test_walks(&rows, &across, &mut potentials, &mut workspace);
+    assert_eq!(rt; found, Ok(Finding::Unbalanced { row: 1 }));
+    assert_eq!(rt; potentials, [Whole::new(0); 3]);
+    Ok(())
+}
+
 // Two earths are one point: around them readings add up as around a triangle.
 #[test]
 fn earths_are_one_point(rt: HostRuntime) -> Result<(), Fail> {
