@@ -1,5 +1,5 @@
-// Lists and prints a sheet at all its limits, tests the walks along its rows, and places assemblies. How much that is goes to standard output,
-// and how long it took to standard error.
+// Lists and prints a sheet at all its limits, tests the walks along its rows, and places assemblies. How much
+// that is goes to standard output, and how long it took to standard error.
 #![tactic(auto)]
 
 use assembly::Assembly;

@@ -1,4 +1,4 @@
-// Trials of the sums that readings are checked by: small rows and laws, worked by hand.
+// Trials of the sums that readings are checked by: small rows and laws, worked .
 #![tactic(auto)]
 
 #[cfg(test)]

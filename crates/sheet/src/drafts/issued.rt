@@ -67,6 +67,7 @@ impl Sheet {
         draft.rows.as_slice()
     }
 
+    // The laws, one after another.
     pub fn laws(&self) -> LawView<'_>
         ensures value { pieces result.lengths.now result.terms.now ≡ self.now.laws }
     {
