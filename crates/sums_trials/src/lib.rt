@@ -1,4 +1,4 @@
-// Trials of the sums that readings are checked by: small rows and laws, worked .
+// Trials of the sums that readings are checked by, on small rows and laws.
 #![tactic(auto)]
 
 #[cfg(test)]
