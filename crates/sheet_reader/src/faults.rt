@@ -1,0 +1,86 @@
+// Why a text is not read to its end. Users know a fault by its line and column, and by a number, a place and
+// a cause, which are those of the refusal where a call is refused.
+ghost use Rattle.std.specs.Prelude.{◌≡◌, Some};
+ghost use Rattle.sheet_reader.specs.Faults.{line, column, number, place, cause, fault_text};
+
+use netlist::refusals::Refusal;
+use std::fmt;
+
+// Lines and columns are counted from 1.
+#[derive(Clone, Copy, PartialEq, Eq, Debug)]
+pub enum TextFault {
+    // A line has no allowed form. The column is that of the first byte that no allowed line has there.
+    Form { line: usize, column: usize },
+    // The text is longer than a sheet text may be.
+    TooLong,
+    // What a line commands is refused.
+    Refused { line: usize, why: Refusal },
+}
+
+impl TextFault {
+    // 0 where the whole text is at fault.
+    pub fn line(self) -> usize
+        ensures { result ≡ line self }
+    {
+        match self {
+            TextFault::Form { line, .. } | TextFault::Refused { line, .. } => line,
+            TextFault::TooLong => 0,
+        }
+    }
+
+    // A refused call is told at column 1 of its line.
+    pub fn column(self) -> usize
+        ensures { result ≡ column self }
+    {
+        match self {
+            TextFault::Form { column, .. } => column,
+            TextFault::TooLong => 0,
+            TextFault::Refused { .. } => 1,
+        }
+    }
+
+    pub fn number(self) -> u32
+        ensures { result ≡ number self }
+    {
+        match self {
+            TextFault::Form { .. } => 11,
+            TextFault::TooLong => 12,
+            TextFault::Refused { why, .. } => why.number(),
+        }
+    }
+
+    pub fn place(self) -> usize
+        ensures { result ≡ place self }
+    {
+        match self {
+            TextFault::Form { .. } | TextFault::TooLong => 0,
+            TextFault::Refused { why, .. } => why.place(),
+        }
+    }
+
+    pub fn cause(self) -> u32
+        ensures { result ≡ cause self }
+    {
+        match self {
+            TextFault::Form { .. } | TextFault::TooLong => 0,
+            TextFault::Refused { why, .. } => why.cause(),
+        }
+    }
+}
+
+// As a user is told of it: by its line and column, and by its number, its place and its cause.
+impl fmt::Display for TextFault {
+    ghost output = { λ f. Some (fault_text f) };
+
+    fn fmt<W: fmt::Write>(&self, f: &mut fmt::Formatter<W>) -> fmt::Result {
+        let line = self.line();
+        let column = self.column();
+        let number = self.number();
+        let place = self.place();
+        let cause = self.cause();
+        write!(f, "fault {line} {column} ")?;
+        write!(f, "{number} {place} {cause}")
+    }
+}
+
+impl std::error::Error for TextFault {}
