@@ -1,6 +1,8 @@
 // A text is read: each line is drawn before the next is read.
 ghost use Rattle.std.specs.Prelude.{◌≡◌, MatchResult};
-ghost use Rattle.sheet_reader.specs.Reading.{AtFault, Passes, ReadsText, after_line};
+ghost use Rattle.text.specs.Newlines.{lines_of};
+ghost use Rattle.sheet_reader.specs.Laws.{ReadingLaw};
+ghost use Rattle.sheet_reader.specs.Reading.{AtFault, Passes, Reads, ReadsText, after_line};
 
 use crate::drawing::draw;
 use crate::faults::TextFault;
@@ -22,15 +24,24 @@ fn draw_line(line: TextLine<'_>, draft: &mut Draft) -> Result<(), TextFault>
     }
 }
 
-// Reads the text into the draft, up to its first fault. What the lines before a fault drew stays drawn.
-pub fn read(text: &[u8], draft: &mut Draft) -> Result<(), TextFault>
-    ensures { ReadsText text.now draft.old result draft.new }
+// Draws the lines of the text in turn.
+fn draw_lines(text: &[u8], draft: &mut Draft) -> Result<(), TextFault>
+    ensures { Reads draft.old 0 (lines_of text.now) result draft.new }
 {
-    if !fits(text) {
-        return Err(TextFault::TooLong);
-    }
     for line in lines(text) {
         draw_line(line, draft)?;
     }
     Ok(())
+}
+
+// Reads the text into the draft, up to its first fault. What the lines before a fault drew stays drawn.
+#[tactic(auto, using(crate::proofs::Laws::reading_law))]
+pub fn read(text: &[u8], draft: &mut Draft) -> Result<(), TextFault>
+    ensures reads { ReadsText text.now draft.old result draft.new }
+    ensures law { ReadingLaw text.now draft.old result draft.new }
+{
+    if !fits(text) {
+        return Err(TextFault::TooLong);
+    }
+    draw_lines(text, draft)
 }

@@ -1,9 +1,9 @@
 use Rattle.netlist.specs.Netlist.{Netlist}
 use Rattle.text.specs.Newlines.{lines_of}
 use Rattle.sheet_reader.specs.Reading.{Answer, Reads}
-use Rattle.sheet_reader.proofs.reading.read.Given as goal
+use Rattle.sheet_reader.proofs.reading.draw_lines.Given as goal
 
--- reading on from the lines that are left is reading the whole text
+-- reading on from the lines that are left is reading all of them
 abbrev pub invariant-loop-line : goal.invariant-loop-line
 invariant-loop-line l =
     (r : Answer) (c : Netlist)
