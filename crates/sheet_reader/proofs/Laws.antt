@@ -1,5 +1,5 @@
 -- The laws of reading, by induction on the lines. Assumes nothing.
-use Rattle.std.proofs.Common.{◌≡◌, ℕ, suc, ◌+◌, ◌<◌, ◌≤◌, ◌↔◌, List, [], ◌∷◌, length, take, Ok, Err, None, Some, IsOk, MatchResult, is_ok, inl, inr, refl, sym, ap, ◌∙◌, subst, arith, get_or}
+use Rattle.std.proofs.Common.{◌≡◌, ℕ, suc, ◌+◌, ◌<◌, List, [], ◌∷◌, length, Ok, Err, IsOk, MatchResult, is_ok, inl, inr, refl, sym, ap, ◌∙◌, subst, arith, get_or}
 use Rattle.std.specs.Result.{IsErrAnd}
 use Rattle.netlist.specs.Netlist.{Netlist}
 use Rattle.text.specs.Grammar.{Bytes}
@@ -8,7 +8,7 @@ use Rattle.text.proofs.Columns.{one_column}
 use Rattle.sheet_reader.specs.declared.faults.TextFault.{TextFault}
 use Rattle.sheet_reader.specs.declared.faults.TextFault.TheVariants.{Form, TooLong, Refused}
 use Rattle.sheet_reader.specs.Reading.{Answer, Passes, after_line, AtFault, Reads, ReadsText}
-use Rattle.sheet_reader.specs.Laws.{AllPass, after_lines, Reached, ReadingLaw}
+use Rattle.sheet_reader.specs.Laws.{AllPass, Reached, ReadingLaw}
 
 -- a line that passes is at no fault
 not_at_fault : (b : Netlist) (n : ℕ) (line : Bytes) (f : TextFault) → Passes b line → AtFault b n line f → ⊥

@@ -36,3 +36,7 @@ abbrev pub fault_text : TextFault → List ℕ
 fault_text f =
     (codes "fault " ++ decimal (line f) ++ codes " " ++ decimal (column f) ++ codes " ")
     ++ (decimal (number f) ++ codes " " ++ decimal (place f) ++ codes " " ++ decimal (cause f))
+
+-- the line that a program prints
+abbrev pub fault_line : TextFault → List ℕ
+fault_line f = fault_text f ++ codes "\n"

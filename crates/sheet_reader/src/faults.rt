@@ -1,9 +1,12 @@
 // Why a text is not read to its end. Users know a fault by its line and column, and by a number, a place and
 // a cause, which are those of the refusal where a call is refused.
 ghost use Rattle.std.specs.Prelude.{◌≡◌, Some};
-ghost use Rattle.sheet_reader.specs.Faults.{line, column, number, place, cause, fault_text};
+ghost use Rattle.netlist.specs.Buffers.{filled};
+ghost use Rattle.spelling.specs.Rules.{judge_text, answer_text};
+ghost use Rattle.sheet_reader.specs.Faults.{line, column, number, place, cause, fault_text, fault_line};
 
 use netlist::refusals::Refusal;
+use spelling::faults::{self, FaultLine};
 use std::fmt;
 
 // Lines and columns are counted from 1.
@@ -84,3 +87,20 @@ impl fmt::Display for TextFault {
 }
 
 impl std::error::Error for TextFault {}
+
+// Prints the fault as a line, and answers how many bytes that took. A buffer that is too short is left
+// untouched.
+#[tactic(auto, using(crate::proofs::Told::line_told))]
+pub fn write_fault(fault: TextFault, buffer: &mut [u8]) -> Result<usize, Refusal>
+    ensures answer { result ≡ answer_text buffer.old (fault_line fault) }
+    ensures buffer { buffer.new ≡ filled (judge_text buffer.old (fault_line fault)) buffer.old (fault_line fault) }
+{
+    let told = FaultLine {
+        line: fault.line(),
+        column: fault.column(),
+        number: fault.number(),
+        place: fault.place(),
+        cause: fault.cause(),
+    };
+    faults::write_fault(told, buffer)
+}
