@@ -37,8 +37,8 @@ pub fn judge_row<G: Ground>(ground: &G, row: Row) -> Result<(), Refusal>
     }
 }
 
-// The domain of a node that an argument names.
-fn find_node<G: Ground>(ground: &G, node: usize, argument: Argument) -> Result<Domain, Refusal>
+// The domain of a node that an argument names, if it is drawn.
+pub fn find_node<G: Ground>(ground: &G, node: usize, argument: Argument) -> Result<Domain, Refusal>
     ensures { Accepts (first_of (node_tests (G.Ground.domains ground.now) node argument)) (λ domain. domain_of (G.Ground.domains ground.now) node ≡ domain_number domain) result }
 {
     ground.domain(node).ok_or(Refusal::NoNode { argument })

@@ -22,7 +22,7 @@ module _ {G : Type 0} (𝓖 : Group G) where
       }
 
   module _ (R : Network G) (n : ℕ) where
-    abbrev State : ℕ → Type 0
+    abbrev pub State : ℕ → Type 0
     State k = (label : ℕ → ℕ) × (p : ℕ → G) × Settled 𝓖 R n k label p
 
     next : (k : ℕ) → Within R n (k + 1) → Balanced 𝓖 R (k + 1) → State k → State (k + 1)
@@ -38,7 +38,7 @@ module _ {G : Type 0} (𝓖 : Group G) where
         (λ above. (label_moved (label a) (label b) label, potential_moved (label a) gap label p, tail_joins 𝓖 R n k label p settled _ _ within above (moves n (label a) (label b) gap label p))))
         (cases_order (label a) (label b))
 
-    state : (k : ℕ) → Within R n k → Balanced 𝓖 R k → State k
+    pub state : (k : ℕ) → Within R n k → Balanced 𝓖 R k → State k
     state zero within balanced = (λ v. v, λ _. 𝓖.zero, start 𝓖 R n (λ v. v) (λ _. 𝓖.zero) (λ v _. refl) (λ v _. refl))
     state (suc k) within balanced =
         let more = sym (add-one k) in

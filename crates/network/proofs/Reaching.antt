@@ -17,7 +17,7 @@ module _ {G : Type 0} (R : Network G) where
   walk_more k m a b (forward j ∷ s) l w = (omega (arith, w.0), w.1, walk_more k m (R.head j) b s l w.2)
   walk_more k m a b (backward j ∷ s) l w = (omega (arith, w.0), w.1, walk_more k m (R.tail j) b s l w.2)
 
-  walk_append : (k a b c : ℕ) (s t : List Step) → Walk R k a s b → Walk R k b t c → Walk R k a (s ++ t) c
+  pub walk_append : (k a b c : ℕ) (s t : List Step) → Walk R k a s b → Walk R k b t c → Walk R k a (s ++ t) c
   walk_append k a b c [] t e w = subst (λ v. Walk R k v t c) (sym e) w
   walk_append k a b c (forward j ∷ s) t v w = (v.0, v.1, walk_append k (R.head j) b c s t v.2 w)
   walk_append k a b c (backward j ∷ s) t v w = (v.0, v.1, walk_append k (R.tail j) b c s t v.2 w)
@@ -39,7 +39,7 @@ module _ {G : Type 0} (R : Network G) where
   walk_within n k within a b (backward j ∷ s) l w = walk_within n k within (R.tail j) b s (within j w.0).0 w.2
 
 module _ {G : Type 0} (𝓖 : Group G) (R : Network G) where
-  total_append : (s t : List Step) → total 𝓖 R (s ++ t) ≡ 𝓖.sum (total 𝓖 R s) (total 𝓖 R t)
+  pub total_append : (s t : List Step) → total 𝓖 R (s ++ t) ≡ 𝓖.sum (total 𝓖 R s) (total 𝓖 R t)
   total_append [] t = sym (𝓖.neutral _)
   total_append (forward j ∷ s) t = ap (𝓖.sum (R.reading j)) (total_append s t) ∙ sym (𝓖.associative _ _ _)
   total_append (backward j ∷ s) t = ap (𝓖.sum (𝓖.negation (R.reading j))) (total_append s t) ∙ sym (𝓖.associative _ _ _)

@@ -1,2 +1,4 @@
 pub mod Moved
 pub mod Place
+pub mod Seats
+pub mod Parts

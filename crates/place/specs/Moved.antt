@@ -1,5 +1,5 @@
 -- What a plan adds to a netlist where it is placed. Assumes nothing.
-use Rattle.std.specs.Prelude.{ℕ, ◌+◌, ◌-◌, cond, List, ◌++◌, map, length, nat_lt, slice_index}
+use Rattle.std.specs.Prelude.{ℕ, ◌+◌, ◌-◌, cond, List, map, length, nat_lt, slice_index}
 use Rattle.netlist.specs.declared.rows.Row.{Row}
 use Rattle.netlist.specs.declared.rows.Row.TheVariants.{Branch, Earth}
 use Rattle.netlist.specs.declared.terms.RawTerm.{RawTerm}
@@ -9,21 +9,18 @@ use Rattle.assembly.specs.Meaning.{Plan}
 use Rattle.plan_judging.specs.Terms.{law_from}
 
 -- The plan's ends become the nodes given for them, in their order. Its inner nodes come behind the nodes
--- that are drawn, and its variables behind the variables.
-abbrev pub moved_node : Netlist → List ℕ → ℕ → ℕ
-moved_node b given n = cond (nat_lt n (length given)) (slice_index given n) (length b.domains + (n - length given))
+-- that are drawn, of which there are so many, and its variables behind the variables.
+abbrev pub moved_node : ℕ → List ℕ → ℕ → ℕ
+moved_node nodes given n = cond (nat_lt n (length given)) (slice_index given n) (nodes + (n - length given))
 
-abbrev pub moved_variable : Netlist → ℕ → ℕ
-moved_variable b v = b.variables + v
-
-abbrev pub moved_row : Netlist → List ℕ → Row ℕ → Row ℕ
-moved_row b given (Branch flow across first second) =
-    Branch (moved_variable b flow) (moved_variable b across) (moved_node b given first) (moved_node b given second)
-moved_row b given (Earth flow across node) =
-    Earth (moved_variable b flow) (moved_variable b across) (moved_node b given node)
+abbrev pub moved_row : ℕ → ℕ → List ℕ → Row ℕ → Row ℕ
+moved_row nodes variables given (Branch flow across first second) =
+    Branch (variables + flow) (variables + across) (moved_node nodes given first) (moved_node nodes given second)
+moved_row nodes variables given (Earth flow across node) =
+    Earth (variables + flow) (variables + across) (moved_node nodes given node)
 
 abbrev pub moved_rows : Netlist → List ℕ → Plan → List (Row ℕ)
-moved_rows b given p = map (moved_row b given) p.rows
+moved_rows b given p = map (moved_row (length b.domains) b.variables given) p.rows
 
 abbrev pub moved_laws : Netlist → Plan → List (List (RawTerm ℕ))
 moved_laws b p = map (law_from b.variables) p.laws

@@ -9,6 +9,7 @@ mod ends;
 mod seats;
 
 use assembly::Assembly;
+use assembly::plans::Size;
 use drawing::draw;
 use ends::judge_ends;
 use netlist::refusals::Refusal;
@@ -28,11 +29,13 @@ pub fn place<A: Assembly>(
     ensures answer { result ≡ answer_place draft.old (A.Assembly.meaning part.now) (first ∷ second ∷ []) }
     ensures netlist { draft.new ≡ after_place draft.old (A.Assembly.meaning part.now) (first ∷ second ∷ []) }
 {
-    let size = part.size().ok_or(Refusal::Void)?;
+    let before = draft.counts();
+    let Some(size) = part.size() else {
+        return Err(Refusal::Void);
+    };
     judge_ends(draft, part, first, second)?;
     let terms = judge_plan(part)?;
     draft.judge_room(added(size), terms)?;
-    let before = draft.counts();
     let seat = Seat {
         first,
         second,
@@ -41,4 +44,16 @@ pub fn place<A: Assembly>(
     };
     draw(draft, part, size, seat);
     Ok(before)
+}
+
+// What a plan of this size adds.
+fn added(size: Size) -> Counts
+    ensures { result ≡ record { nodes = size.inner; variables = size.variables; rows = size.rows; laws = size.laws } }
+{
+    Counts {
+        nodes: size.inner,
+        variables: size.variables,
+        rows: size.rows,
+        laws: size.laws,
+    }
 }

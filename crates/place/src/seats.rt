@@ -1,6 +1,7 @@
 // Where a plan's things go on a draft.
-ghost use Rattle.std.specs.Prelude.{◌≡◌};
-ghost use Rattle.place.specs.Seats.{seated_node, seated_row};
+ghost use Rattle.std.specs.Prelude.{◌≡◌, ◌+◌};
+ghost use Rattle.place.specs.Moved.{moved_node};
+ghost use Rattle.place.specs.Seats.{given, seated_row};
 
 use assembly::plans::PlanRow;
 use netlist::rows::Row;
@@ -8,7 +9,7 @@ use netlist::rows::Row;
 // The nodes that the two ends become, and how many nodes and variables there are before. Sixteen bits hold
 // these counts, and then no sum can overflow.
 #[derive(Clone, Copy)]
-pub(crate) struct Seat {
+pub struct Seat {
     pub first: usize,
     pub second: usize,
     pub nodes: u16,
@@ -17,7 +18,7 @@ pub(crate) struct Seat {
 
 impl Seat {
     fn node(self, n: u32) -> usize
-        ensures { result ≡ seated_node self n }
+        ensures { result ≡ moved_node self.nodes (given self) n }
     {
         match n {
             0 => self.first,
@@ -32,7 +33,7 @@ impl Seat {
         usize::from(self.variables) + v as usize
     }
 
-    pub fn row(self, row: PlanRow) -> Row
+    pub(crate) fn row(self, row: PlanRow) -> Row
         ensures { result ≡ seated_row self row }
     {
         match row {

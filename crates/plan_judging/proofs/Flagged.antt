@@ -1,12 +1,10 @@
 -- What the flags of variables say of the rows.
-use Rattle.std.proofs.Common.{◌≡◌, ℕ, ◌<◌, Bool, true, false, List, length, None, get_or, sym, refl, ap, ◌∙◌}
+use Rattle.std.proofs.Common.{◌≡◌, ℕ, Bool, true, false, List, refl, ap, ◌∙◌}
 use Rattle.std.specs.Prelude.{nat_lt}
 use Rattle.netlist.specs.declared.rows.Row.{Row}
-use Rattle.netlist.specs.Flags.{Marked, flag_up, raised}
-use Rattle.netlist.specs.Netlist.{Netlist}
+use Rattle.netlist.specs.Flags.{Marked, flag_up}
 use Rattle.netlist.specs.Rows.{bit}
-use Rattle.netlist.specs.Rules.{Tests, first_of, row_tests, taken_by, table_row}
-use Rattle.netlist.proofs.Tables.{Fresh, row_fresh}
+use Rattle.netlist.specs.Rules.{first_of, row_tests, taken_by}
 
 told : (b : Bool) → nat_lt 0 (bit b) ≡ b
 told true = refl

@@ -1,14 +1,13 @@
 -- A law that is gathered, and how many terms there are. Assumes nothing.
-use Rattle.std.proofs.Common.{◌≡◌, ℕ, ◌+◌, ◌≤◌, true, false, List, [], ◌∷◌, ◌++◌, map, length, get_or, take, Some, ⊎_elim, sym, refl, ap, ◌∙◌, arith}
+use Rattle.std.proofs.Common.{◌≡◌, ℕ, ◌+◌, ◌≤◌, true, List, [], ◌∷◌, ◌++◌, length, get_or, take, Some, ⊎_elim, sym, refl, ap, ◌∙◌, arith}
 use Rattle.std.specs.List.{slice_get}
 use Rattle.std.proofs.lemmas.Bool.{not-true, ltb-false, or_parts, cases_lt}
 use Rattle.std.proofs.lemmas.List.{take_all, length-map, get_or_past}
 use Rattle.netlist.specs.declared.terms.RawTerm.{RawTerm}
 use Rattle.netlist.specs.Netlist.{term_count}
-use Rattle.netlist.specs.Rules.{no_term_count}
-use Rattle.netlist.specs.Sound.{every, is_term_count}
+use Rattle.netlist.specs.Sound.{is_term_count}
 use Rattle.netlist.proofs.Every.{every_at, every_map}
-use Rattle.assembly.specs.Meaning.{Meaning, void, plan, Proper, laws_of, terms_of}
+use Rattle.assembly.specs.Meaning.{Meaning, void, plan, Proper, terms_of}
 use Rattle.plan_judging.specs.Terms.{counted_on, law_from}
 use Rattle.plan_judging.proofs.Turns.{take_place}
 

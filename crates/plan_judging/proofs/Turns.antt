@@ -1,5 +1,5 @@
 -- Rows and laws are judged in turn: one that passes leaves it to the rest, and one that does not decides.
-use Rattle.std.proofs.Common.{◌≡◌, ℕ, ◌+◌, ◌<◌, List, [], ◌∷◌, ◌++◌, length, get_or, take, drop, Some, None, Option, sym, ap, ◌∙◌}
+use Rattle.std.proofs.Common.{◌≡◌, ℕ, ◌+◌, List, [], ◌∷◌, ◌++◌, take, drop, Some, None, Option, sym, ap, ◌∙◌}
 use Rattle.std.specs.List.{slice_get}
 use Rattle.std.specs.Option.{option_map, option_or}
 use Rattle.std.proofs.lemmas.List.{at_drop_more, take_more}
@@ -8,7 +8,7 @@ use Rattle.netlist.specs.declared.refusals.Refusal.{Refusal}
 use Rattle.netlist.specs.declared.refusals.Refusal.TheVariants.{PlanRow, PlanLaw}
 use Rattle.netlist.specs.declared.rows.Row.{Row}
 use Rattle.netlist.specs.declared.terms.RawTerm.{RawTerm}
-use Rattle.netlist.specs.Netlist.{Netlist, with_rows, term_count}
+use Rattle.netlist.specs.Netlist.{Netlist}
 use Rattle.netlist.specs.Refusals.{number}
 use Rattle.netlist.specs.Rules.{first_of, table_row, table_law}
 use Rattle.plan_judging.specs.Alone.{judge_rows, judge_laws}

@@ -8,7 +8,7 @@ mod adding;
 pub mod calls;
 pub mod counting;
 pub mod issued;
-mod judging;
+mod passing;
 pub mod views;
 
 const MAX_NODES: usize = 1000;

@@ -1,4 +1,4 @@
-use Rattle.std.proofs.Common.{◌≡◌, ◌+◌, drop, map, take, length, []}
+use Rattle.std.proofs.Common.{◌≡◌, drop, map, take, length, []}
 use Rattle.netlist.specs.Domains.{domain_number}
 use Rattle.netlist.specs.Flags.{Marked}
 use Rattle.netlist.specs.Netlist.{Netlist}

@@ -1,4 +1,4 @@
-use Rattle.std.proofs.Common.{◌≡◌, ℕ, ◌≤◌, length, take}
+use Rattle.std.proofs.Common.{◌≡◌, ◌≤◌, length, take}
 use Rattle.assembly.specs.Meaning.{terms_of}
 use Rattle.plan_judging.specs.Terms.{law_from}
 use Rattle.plan_judging.proofs.terms.LawTerms.of.Given as goal

@@ -1,0 +1,2 @@
+pub mod Small
+pub mod Exact

@@ -1,0 +1,32 @@
+-- The plan of an assembly, and an empty one of a void assembly. Assumes nothing.
+use Rattle.std.specs.Prelude.{ℕ, not, List, [], ◌∷◌, ◌++◌, Some, Option, ◌==◌}
+use Rattle.netlist.specs.declared.domains.Domain.{Domain}
+use Rattle.netlist.specs.declared.refusals.Argument.{Argument}
+use Rattle.netlist.specs.declared.refusals.Argument.TheVariants.{End}
+use Rattle.netlist.specs.declared.refusals.Refusal.{Refusal}
+use Rattle.netlist.specs.declared.refusals.Refusal.TheVariants.{Domain as DomainDiffers, Void}
+use Rattle.netlist.specs.Domains.{domain_number}
+use Rattle.netlist.specs.Netlist.{Netlist}
+use Rattle.netlist.specs.Rules.{Tests, domain_of}
+use Rattle.judging.specs.Judging.{node_tests}
+use Rattle.assembly.specs.Meaning.{Meaning, void, plan, Plan}
+use Rattle.place.specs.Place.{judge_ends}
+
+abbrev pub plan_of : Meaning → Plan
+plan_of void = record { ends = []; inner = []; variables = 0; rows = []; laws = [] }
+plan_of (plan p) = p
+
+-- whether it is void, and then its ends
+abbrev pub judge_void_ends : Netlist → List ℕ → Meaning → Option Refusal
+judge_void_ends b given void = Some Void
+judge_void_ends b given (plan p) = judge_ends b given p
+
+-- whether a node of domain n has the domain of the end placed at it
+abbrev pub domain_tests : ℕ → Domain → Argument → Tests
+domain_tests n end argument = (not (n == domain_number end), DomainDiffers argument) ∷ []
+
+-- the tests of two nodes at ends of these domains
+abbrev pub two_tests : List ℕ → ℕ → ℕ → Domain → Domain → Tests
+two_tests domains first second d e =
+    (node_tests domains first (End 0) ++ node_tests domains second (End 1))
+    ++ (domain_tests (domain_of domains first) d (End 0) ++ domain_tests (domain_of domains second) e (End 1))
