@@ -1,6 +1,6 @@
 // Why a text is not read to its end. Users know a fault by its line and column, and by a number, a place and
 // a cause, which are those of the refusal where a call is refused.
-ghost use Rattle.std.specs.Prelude.{◌≡◌, Some};
+ghost use Rattle.std.specs.Prelude.{◌≡◌, ◌≤◌, Some, length};
 ghost use Rattle.netlist.specs.Buffers.{filled};
 ghost use Rattle.spelling.specs.Rules.{judge_text, answer_text};
 ghost use Rattle.sheet_reader.specs.Faults.{line, column, number, place, cause, fault_text, fault_line};
@@ -88,10 +88,15 @@ impl fmt::Display for TextFault {
 
 impl std::error::Error for TextFault {}
 
+// A buffer of so many bytes holds the line of each fault: a word, and five numbers of at most 20 digits, each
+// behind a blank.
+pub const FAULT_BYTES: usize = 111;
+
 // Prints the fault as a line, and answers how many bytes that took. A buffer that is too short is left
 // untouched.
-#[tactic(auto, using(crate::proofs::Told::line_told))]
+#[tactic(auto, using(crate::proofs::Told::line_told, crate::proofs::Told::line_short))]
 pub fn write_fault(fault: TextFault, buffer: &mut [u8]) -> Result<usize, Refusal>
+    ensures short { length (fault_line fault) ≤ 111 }
     ensures answer { result ≡ answer_text buffer.old (fault_line fault) }
     ensures buffer { buffer.new ≡ filled (judge_text buffer.old (fault_line fault)) buffer.old (fault_line fault) }
 {

@@ -6,5 +6,5 @@ mod faults;
 mod reading;
 
 pub use drawing::draw;
-pub use faults::{TextFault, write_fault};
+pub use faults::{FAULT_BYTES, TextFault, write_fault};
 pub use reading::read;
