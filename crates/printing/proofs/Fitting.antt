@@ -1,7 +1,6 @@
 -- Each line of a sheet has room in a buffer of 16,384 bytes. Assumes nothing.
-use Rattle.std.proofs.Common.{◌≡◌, ℕ, zero, suc, ◌+◌, ◌*◌, ◌^◌, ◌-◌, ◌<◌, ◌≤◌, Bool, true, false, cond, ◌&&◌, ◌==◌, ◌⊎◌, inl, inr, ⊎_elim, nat_lt, slice_index, List, [], ◌∷◌, ◌++◌, map, length, get_or, None, Some, Option, refl, sym, ap, subst, arith, eqb, unsigned_abs}
+use Rattle.std.proofs.Common.{◌≡◌, ℕ, zero, suc, ◌+◌, ◌^◌, ◌-◌, ◌<◌, ◌≤◌, Bool, true, false, cond, ◌&&◌, ◌==◌, ◌⊎◌, inl, inr, ⊎_elim, nat_lt, slice_index, List, [], ◌∷◌, ◌++◌, length, get_or, None, Some, refl, sym, ap, subst, arith, eqb, unsigned_abs}
 use Rattle.std.specs.Option.{option_to_list}
-use Rattle.std.specs.List.{flat_map, range_with_len}
 use Rattle.std.proofs.lemmas.Fmt.{length-decimal-le}
 use Rattle.std.proofs.lemmas.Bool.{and_parts, ltb-true, eq-eqb, cases_order}
 use Rattle.std.proofs.lemmas.Bool.Decides.{nat_tests}
@@ -9,7 +8,7 @@ use Rattle.netlist.specs.declared.rows.Row.{Row}
 use Rattle.netlist.specs.declared.rows.Row.TheVariants.{Branch, Earth}
 use Rattle.netlist.specs.declared.terms.Term.{Term}
 use Rattle.netlist.specs.Netlist.{Netlist}
-use Rattle.netlist.specs.Rows.{bit, hits, uses, flow_of, across_of}
+use Rattle.netlist.specs.Rows.{bit, uses, flow_of, across_of}
 use Rattle.netlist.specs.Sound.{every, names, is_sized, is_term_count, joins, Lawful, Sound}
 use Rattle.spelling.proofs.Lengths.{Small, AllSmall, line_short}
 use Rattle.netlist.proofs.Every.{every_at}

@@ -1,5 +1,5 @@
 -- What a program prints of a sheet text. Assumes nothing.
-use Rattle.std.specs.Prelude.{◌≡◌, ℕ, List, ◌++◌, length, Ok, Err}
+use Rattle.std.specs.Prelude.{◌≡◌, ◌++◌, length, Ok, Err}
 use Rattle.std.specs.List.{flat_map}
 use Rattle.netlist.specs.Netlist.{Netlist, empty}
 use Rattle.text.specs.Grammar.{Bytes}

@@ -8,7 +8,7 @@ use Rattle.netlist.specs.declared.terms.Term.{Term}
 use Rattle.spelling.specs.declared.quantities.Quantity.{Quantity}
 use Rattle.spelling.specs.declared.quantities.Quantity.TheVariants.{Value, Rate, Potential}
 use Rattle.spelling.specs.Quantities.{of_variable, quantity, letter, number}
-use Rattle.spelling.specs.Lines.{sign, term_text, rest_text, sum_text, line_text}
+use Rattle.spelling.specs.Lines.{sign, term_text, rest_text, line_text}
 
 -- the coefficient has at most k digits, and the number of the variable or node at most four
 pub record Small (k : ℕ) (t : Term) : Type 0 where

@@ -1,7 +1,7 @@
 use Rattle.std.proofs.Common.{◌≡◌, is_ok, length, ap, arith}
 use Rattle.std.proofs.lemmas.Grind.{common_steps}
 use Rattle.equation.specs.Printing.{line_of}
-use Rattle.printing.proofs.Putting.{Front, line_front}
+use Rattle.printing.proofs.Putting.{line_front}
 use Rattle.printing.proofs.sheets.put_line.Goals as goal
 
 pub unwrap-end-requires : goal.unwrap-end-requires

@@ -1,4 +1,4 @@
-use Rattle.std.proofs.Common.{◌≡◌, ◌≤◌, is_ok, length, replicate, ap, arith}
+use Rattle.std.proofs.Common.{◌≡◌, is_ok, length, replicate, ap, arith}
 use Rattle.std.proofs.lemmas.Grind.{common_steps}
 use Rattle.sheet_reader.specs.Faults.{fault_line}
 use Rattle.printing.proofs.Putting.{text_front}
