@@ -1,3 +1,4 @@
 pub mod Turns
 pub mod Stops
 pub mod InCopies
+pub mod Counted

@@ -8,6 +8,7 @@
 ghost use Rattle.repeat.specs.Repeat.{repeated, Tells};
 
 mod copies;
+pub mod sizes;
 
 use assembly::Assembly;
 use assembly::plans::{PlanRow, PlanTerm, Size};

@@ -1,0 +1,7 @@
+// Trials of placing assemblies on drafts.
+#![tactic(auto)]
+
+#[cfg(test)]
+mod faults;
+#[cfg(test)]
+mod placing;

@@ -1,0 +1,51 @@
+// What the listed equations of a netlist come to, once readings and potentials are put into them, for every
+// kind of quantity.
+#![tactic(auto)]
+
+ghost use Rattle.std.specs.Prelude.{◌≡◌};
+ghost use Rattle.network.specs.Walks.{read};
+ghost use Rattle.readings.specs.Agreement.{EquationsByPart, EquationsAgree};
+ghost use Rattle.readings.specs.Readings.{term_reading, equation_sum};
+
+use netlist::terms::Term;
+use quantity::Quantity;
+use sums::{reading, value_or_rate};
+
+// What a term of an equation reads: of so many variables the value or the rate of one, or else the potential
+// of a node.
+fn term_reading<K: Quantity>(
+    term: Term,
+    variables: usize,
+    values: &[K],
+    rates: &[K],
+    potentials: &[K],
+) -> K
+    ensures { result ≡ term_reading K.group variables values.now rates.now (read K.group potentials.now) term }
+{
+    if term.variable < variables {
+        value_or_rate(term, values, rates)
+    } else {
+        reading(potentials, term.variable - variables)
+    }
+}
+
+// What an equation of a netlist with so many variables comes to. A reading or a potential that a list lacks
+// counts as zero.
+pub fn equation_sum<K: Quantity>(
+    equation: &[Term],
+    variables: usize,
+    values: &[K],
+    rates: &[K],
+    potentials: &[K],
+) -> K
+    ensures value { result ≡ equation_sum K.group variables values.now rates.now (read K.group potentials.now) equation.now }
+    ensures by_part { EquationsByPart K.group }
+    ensures agree { EquationsAgree K.group }
+{
+    let mut sum = K::zero();
+    for term in equation {
+        let read = term_reading(*term, variables, values, rates, potentials);
+        sum = sum.sum(read.multiple(term.coefficient));
+    }
+    sum
+}

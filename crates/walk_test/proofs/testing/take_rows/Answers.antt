@@ -1,0 +1,29 @@
+use Rattle.std.proofs.Common.{◌≡◌, ◌+◌, length, slice_index, subst, arith, rules}
+use Rattle.network.proofs.Settling.{settled_balances, settled_solves}
+use Rattle.walk_test.specs.Joining.{SettledBy}
+use Rattle.walk_test.specs.Potentials.{potential_at}
+use Rattle.walk_test.specs.Tested.{network_with}
+use Rattle.walk_test.proofs.testing.take_rows.Goals as goal
+
+pub loop-k-init : goal.loop-k-init
+loop-k-init g c = c.start.ensures _
+
+pub returns-then-not-join : goal.returns-then-not-join
+returns-then-not-join g c =
+    let l = c.loop-k in (
+      record {
+        within = c.loop-k-test.true;
+        before = settled_balances _ _ (length l.potentials + 1) _ (slice_index l.labels) (potential_at g.K.Quantity.group l.potentials) l.invariant;
+        here = c.if-not-join.ensures;
+      },
+      search rules,
+    )
+
+pub returns : goal.returns
+returns g c =
+    let l = c.loop-k in
+    let 𝓖 = g.K.Quantity.group in
+    let R = network_with c.args.rows.now (g.A.Across.reading c.args.across.now) in
+    let all : l.k ≡ length c.args.rows.now = omega arith in
+    settled_solves 𝓖 R (length l.potentials + 1) (length c.args.rows.now) (slice_index l.labels) (potential_at 𝓖 l.potentials)
+    (subst (λ k. SettledBy 𝓖 R k l.labels l.potentials) all l.invariant) (λ j lt. let ends = c.requires.drawn j lt in (omega arith, omega arith))

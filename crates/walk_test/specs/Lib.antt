@@ -1,0 +1,4 @@
+pub mod Drawn
+pub mod Potentials
+pub mod Joining
+pub mod Tested

@@ -1,0 +1,46 @@
+// The vertices that a row leads between. Vertex 0 is the common earth point, and vertex n + 1 is node n.
+ghost use Rattle.std.specs.Prelude.{◌≡◌, ◌^◌, ◌<◌};
+ghost use Rattle.network.specs.Walks.{tail_of, head_of};
+ghost use Rattle.walk_test.specs.Drawn.{is_drawn};
+
+use netlist::rows::Row;
+
+// There is one earth point for all earths.
+pub const EARTH: usize = 0;
+
+// A row leads from its tail to its head.
+#[derive(Clone, Copy)]
+pub struct Ends {
+    pub tail: usize,
+    pub head: usize,
+}
+
+impl Ends {
+    pub fn of(row: Row) -> Ends
+        requires tail { tail_of row < 2 ^ 64 }
+        requires head { head_of row < 2 ^ 64 }
+        ensures tail { result.tail ≡ tail_of row }
+        ensures head { result.head ≡ head_of row }
+    {
+        match row {
+            Row::Branch { first, second, .. } => Ends {
+                tail: first + 1,
+                head: second + 1,
+            },
+            Row::Earth { node, .. } => Ends {
+                tail: node + 1,
+                head: EARTH,
+            },
+        }
+    }
+}
+
+// Whether the row names none but the first `nodes` nodes.
+pub fn is_drawn(row: Row, nodes: usize) -> bool
+    ensures { result ≡ is_drawn nodes row }
+{
+    match row {
+        Row::Branch { first, second, .. } => first < nodes && second < nodes,
+        Row::Earth { node, .. } => node < nodes,
+    }
+}

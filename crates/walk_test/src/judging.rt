@@ -1,0 +1,27 @@
+// Whether the walk test can begin.
+ghost use Rattle.std.specs.Prelude.{◌≡◌};
+ghost use Rattle.walk_test.specs.Drawn.{first_undrawn, judged};
+
+use super::ends::is_drawn;
+use super::findings::Misfit;
+use super::workspaces::MAX_NODES;
+use netlist::rows::Row;
+
+// The lowest row that names another than the first `nodes` nodes.
+fn first_undrawn(rows: &[Row], nodes: usize) -> Option<usize>
+    ensures { result ≡ first_undrawn rows.now nodes }
+{
+    rows.iter().position(|row| !is_drawn(*row, nodes))
+}
+
+pub fn judge(rows: &[Row], nodes: usize) -> Result<(), Misfit>
+    ensures { result ≡ judged rows.now nodes }
+{
+    if nodes > MAX_NODES {
+        return Err(Misfit::TooMany);
+    }
+    match first_undrawn(rows, nodes) {
+        Some(row) => Err(Misfit::Undrawn { row }),
+        None => Ok(()),
+    }
+}

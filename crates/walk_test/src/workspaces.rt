@@ -1,0 +1,32 @@
+// What the walk test works in.
+use std::alloc::{AllocError, Global};
+use std::marker::Model;
+
+// The most nodes that a sheet has.
+pub const MAX_NODES: usize = 1000;
+
+// Memory for the labels of the earth point and of the nodes of the largest sheet. It is made once, and used
+// again for every set of readings.
+#[derive(Drop)]
+pub struct Workspace {
+    pub(crate) labels: Vec<usize>,
+}
+
+// What it holds is of no matter to callers, since each test begins anew: so they see nothing in it.
+impl Model for Workspace {
+    ghost use Rattle.std.specs.Prelude.{◌≡◌, ⊤, vec_len};
+
+    ghost Value = { ⊤ };
+
+    ghost view = { λ _. tt };
+
+    ghost invariant = { λ workspace. vec_len workspace.labels ≡ 1001 };
+}
+
+impl Workspace {
+    pub fn new(heap: Global) -> Result<Workspace, AllocError> {
+        Ok(Workspace {
+            labels: vec![in heap; 0; MAX_NODES + 1]?,
+        })
+    }
+}
