@@ -1,43 +1,26 @@
-// Draws a hoist's plant sheet, issues it, and prints the equations that it stands for.
+// Reads a sheet text from the standard input, and prints the equations that it stands for, or its fault.
 #![tactic(auto)]
 
-mod hoist;
+use printing::print_text;
+use std::io::{Read, Write};
+use std::process::ExitCode;
+use text::MOST_BYTES;
 
-use anyhow::Context;
-use equation::lines::{LINE_BYTES, line};
-use equation::listing::size;
-use sheet::{Draft, Sheet};
-use spelling::headers::write_header;
-use std::alloc::Global;
-use std::io::Write;
+// One byte more than a text may have tells that it is too long, and no more are read.
+const READ_BYTES: u64 = MOST_BYTES as u64 + 1;
 
-fn drawn(heap: Global) -> anyhow::Result<Sheet> {
-    let mut draft = Draft::new(heap)?;
-    hoist::draw(&mut draft)?;
-    Ok(draft.issue())
+fn run(rt: &HostRuntime) -> anyhow::Result<ExitCode> {
+    let mut text = Vec::new(rt.alloc());
+    rt.stdin().take(READ_BYTES).read_to_end(&mut text)?;
+    let mut printed = Vec::new(rt.alloc());
+    let answer = print_text(rt.alloc(), text.as_slice(), &mut printed)?;
+    rt.stdout().write_all(printed.as_slice())?;
+    Ok(match answer {
+        Ok(()) => ExitCode::SUCCESS,
+        Err(_) => ExitCode::FAILURE,
+    })
 }
 
-// Writes what was printed into the buffer. `trials` shows lines and prints a sheet in the same few lines, for
-// which a crate of their own would be no plainer.
-fn show(rt: &HostRuntime, buffer: &[u8], end: usize) -> anyhow::Result<()> {
-    let text = buffer.get(..end).context("a line past its buffer")?;
-    rt.stdout().write_all(text)?;
-    Ok(())
-}
-
-fn run(rt: &HostRuntime) -> anyhow::Result<()> {
-    let sheet = drawn(rt.alloc())?;
-    let mut buffer = vec![in rt.alloc(); 0u8; LINE_BYTES]?;
-    let count = size(&sheet).equations;
-    let end = write_header(count, buffer.as_mut_slice())?;
-    show(rt, buffer.as_slice(), end)?;
-    for k in 0..count {
-        let end = line(&sheet, k, buffer.as_mut_slice())?;
-        show(rt, buffer.as_slice(), end)?;
-    }
-    Ok(())
-}
-
-fn main(rt: HostRuntime) -> anyhow::Result<()> {
+fn main(rt: HostRuntime) -> anyhow::Result<ExitCode> {
     run(&rt)
 }

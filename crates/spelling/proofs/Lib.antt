@@ -1,1 +1,3 @@
 pub mod Rests
+pub mod Numbers
+pub mod Lengths

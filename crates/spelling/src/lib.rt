@@ -3,6 +3,7 @@
 #![tactic(auto)]
 
 mod decimals;
+pub mod faults;
 pub mod headers;
 pub mod lines;
 mod quantities;

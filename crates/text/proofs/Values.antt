@@ -1,7 +1,8 @@
 -- A number digit by digit. Assumes nothing.
-use Rattle.std.proofs.Common.{◌≡◌, ℕ, ◌+◌, ◌-◌, ◌*◌, ◌^◌, ◌<◌, ◌≤◌, [], ◌∷◌, length, get_or, suc, min, refl, ap, ◌∙◌, pow-suc, add-one, arith}
+use Rattle.std.proofs.Common.{◌≡◌, ℕ, ◌+◌, ◌-◌, ◌*◌, ◌^◌, ◌<◌, ◌≤◌, [], ◌∷◌, length, get_or, suc, min, ◌⊎◌, inl, inr, ⊎_elim, refl, ap, ◌∙◌, pow-suc, add-one, arith}
 use native.Mathlib.Nat.{pow-le-pow_right}
 use Rattle.std.specs.List.{fold}
+use Rattle.std.proofs.lemmas.Bool.{cases_order}
 use Rattle.text.specs.Grammar.{Bytes}
 use Rattle.text.specs.Decimal.{decimal_after}
 
@@ -27,3 +28,24 @@ capped_exact n i (b ∷ bs) fits short small =
     let on = digit_more n (b - 48) i small (omega arith) (omega arith) in
     let same : min (n * 10 + (b - 48)) 2147483647 ≡ n * 10 + (b - 48) = omega (arith, on.1) in
     ap (λ m. capped_after m bs) same ∙ capped_exact (n * 10 + (b - 48)) (i + 1) bs (λ k. fits (suc k)) (omega arith) on.0
+
+-- more digits write no less
+decimal_grows : (n : ℕ) (bs : Bytes) → n ≤ decimal_after n bs
+decimal_grows n [] = omega arith
+decimal_grows n (b ∷ bs) = omega (arith, decimal_grows (n * 10 + (b - 48)) bs)
+
+-- past the limit it makes no difference what is counted on from
+past_limit : (m : ℕ) (bs : Bytes) → min (decimal_after (min m 2147483647) bs) 2147483647 ≡ min (decimal_after m bs) 2147483647
+past_limit m bs =
+    ⊎_elim
+    (λ h. let same : min m 2147483647 ≡ m = omega arith in ap (λ k. min (decimal_after k bs) 2147483647) same)
+    (λ h. omega (arith, decimal_grows (min m 2147483647) bs, decimal_grows m bs))
+    (below_or_past m)
+  where
+    below_or_past : (m : ℕ) → (m ≤ 2147483647) ⊎ (2147483647 ≤ m)
+    below_or_past m = ⊎_elim (λ e. inl (omega arith)) (⊎_elim (λ h. inl (omega arith)) (λ h. inr (omega arith))) (cases_order m 2147483647)
+
+pub capped_min : (n : ℕ) (bs : Bytes) → n ≤ 2147483647 → capped_after n bs ≡ min (decimal_after n bs) 2147483647
+capped_min n [] h = omega arith
+capped_min n (b ∷ bs) h =
+    capped_min (min (n * 10 + (b - 48)) 2147483647) bs (omega arith) ∙ past_limit (n * 10 + (b - 48)) bs

@@ -1,5 +1,5 @@
 -- What the reader says of a line, and what its fields are. Assumes nothing.
-use Rattle.std.specs.Prelude.{◌≡◌, ℕ, ◌+◌, ◌<◌, ◌≤◌, List, [], ◌∷◌, length, drop, ℤ, pos, neg_ℤ, IfSome, Option, MatchOption, ◌≢◌, slice_index, slice_index_or}
+use Rattle.std.specs.Prelude.{◌≡◌, ℕ, ◌+◌, ◌<◌, ◌≤◌, List, [], ◌∷◌, length, drop, min, ℤ, pos, neg_ℤ, IfSome, Option, MatchOption, ◌≢◌, slice_index, slice_index_or}
 use Rattle.std.specs.List.{between}
 use Rattle.text.specs.declared.line.Field.{Field}
 use Rattle.text.specs.declared.line.Field.TheVariants.{Unsigned, Negative}
@@ -36,6 +36,11 @@ digits_of (Negative digits n column) = digits.now
 abbrev pub value_of : Field → ℤ
 value_of (Unsigned digits n column) = pos (decimal digits.now)
 value_of (Negative digits n column) = neg_ℤ (pos (decimal digits.now))
+
+-- the same, where no number counts as more than 2^31 - 1
+abbrev pub capped_value_of : Field → ℤ
+capped_value_of (Unsigned digits n column) = pos (min (decimal digits.now) 2147483647)
+capped_value_of (Negative digits n column) = neg_ℤ (pos (min (decimal digits.now) 2147483647))
 
 -- the field is written as g: only a field with a minus in front is negative
 abbrev pub Spells : Field → Bytes → Type 0

@@ -1,8 +1,8 @@
 // Reading the fields of a line one by one, and their values.
-ghost use Rattle.std.specs.Prelude.{◌≡◌, ◌-◌, ◌^◌, ◌<◌, ◌≤◌, length};
+ghost use Rattle.std.specs.Prelude.{min, ◌≡◌, ◌-◌, ◌^◌, ◌<◌, ◌≤◌, length};
 ghost use Rattle.std.specs.Iterator.{at_most};
 ghost use Rattle.text.specs.Decimal.{decimal};
-ghost use Rattle.text.specs.Reading.{FieldStep, Spells, Stands, digits_of, value_of};
+ghost use Rattle.text.specs.Reading.{FieldStep, Spells, Stands, digits_of, capped_value_of, value_of};
 
 use super::line::{Field, Fields};
 use super::places::place_of;
@@ -28,9 +28,11 @@ impl<'a> Iterator for Fields<'a> {
 }
 
 impl Field<'_> {
-    // The number that at most seven digits write, leading zeros included, whatever the sign.
+    // The number that at most seven digits write, leading zeros included, whatever the sign. What more digits
+    // write counts as 2^31 - 1 at most.
     pub fn number(&self) -> u32
         ensures bound { result < 2 ^ 31 }
+        ensures capped { result ≡ min (decimal (digits_of self.now)) 2147483647 }
         ensures exact { length (digits_of self.now) ≤ 7 → result ≡ decimal (digits_of self.now) }
     {
         match self {
@@ -40,7 +42,8 @@ impl Field<'_> {
 
     // The same with its sign.
     pub fn coefficient(&self) -> i32
-        ensures { length (digits_of self.now) ≤ 7 → result ≡ value_of self.now }
+        ensures capped { result ≡ capped_value_of self.now }
+        ensures exact { length (digits_of self.now) ≤ 7 → result ≡ value_of self.now }
     {
         match self {
             Field::Unsigned { .. } => self.number() as i32,
@@ -70,9 +73,10 @@ fn field_at<'a>(text: &'a [u8], line: usize, column: usize) -> Field<'a>
 
 const MOST: u32 = i32::MAX as u32;
 
-// The number that at most seven digits write; of more digits it says nothing.
+// The number that at most seven digits write; what more digits write counts as `MOST` at most.
 fn value(digits: &[u8]) -> u32
     ensures bound { result < 2 ^ 31 }
+    ensures capped { result ≡ min (decimal digits.now) 2147483647 }
     ensures exact { length digits.now ≤ 7 → result ≡ decimal digits.now }
 {
     digits.iter().fold(0u32, |sum, b| {

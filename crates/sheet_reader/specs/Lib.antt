@@ -1,0 +1,4 @@
+pub mod Faults
+pub mod Drawing
+pub mod Reading
+pub mod Laws

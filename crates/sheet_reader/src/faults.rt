@@ -1,0 +1,111 @@
+// Why a text is not read to its end. Users know a fault by its line and column, and by a number, a place and
+// a cause, which are those of the refusal where a call is refused.
+ghost use Rattle.std.specs.Prelude.{◌≡◌, ◌≤◌, Some, length};
+ghost use Rattle.netlist.specs.Buffers.{filled};
+ghost use Rattle.spelling.specs.Rules.{judge_text, answer_text};
+ghost use Rattle.sheet_reader.specs.Faults.{line, column, number, place, cause, fault_text, fault_line};
+
+use netlist::refusals::Refusal;
+use spelling::faults::{self, FaultLine};
+use std::fmt;
+
+// Lines and columns are counted from 1.
+#[derive(Clone, Copy, PartialEq, Eq, Debug)]
+pub enum TextFault {
+    // A line has no allowed form. The column is that of the first byte that no allowed line has there.
+    Form { line: usize, column: usize },
+    // The text is longer than a sheet text may be.
+    TooLong,
+    // What a line commands is refused.
+    Refused { line: usize, why: Refusal },
+}
+
+impl TextFault {
+    // 0 where the whole text is at fault.
+    pub fn line(self) -> usize
+        ensures { result ≡ line self }
+    {
+        match self {
+            TextFault::Form { line, .. } | TextFault::Refused { line, .. } => line,
+            TextFault::TooLong => 0,
+        }
+    }
+
+    // A refused call is told at column 1 of its line.
+    pub fn column(self) -> usize
+        ensures { result ≡ column self }
+    {
+        match self {
+            TextFault::Form { column, .. } => column,
+            TextFault::TooLong => 0,
+            TextFault::Refused { .. } => 1,
+        }
+    }
+
+    pub fn number(self) -> u32
+        ensures { result ≡ number self }
+    {
+        match self {
+            TextFault::Form { .. } => 11,
+            TextFault::TooLong => 12,
+            TextFault::Refused { why, .. } => why.number(),
+        }
+    }
+
+    pub fn place(self) -> usize
+        ensures { result ≡ place self }
+    {
+        match self {
+            TextFault::Form { .. } | TextFault::TooLong => 0,
+            TextFault::Refused { why, .. } => why.place(),
+        }
+    }
+
+    pub fn cause(self) -> u32
+        ensures { result ≡ cause self }
+    {
+        match self {
+            TextFault::Form { .. } | TextFault::TooLong => 0,
+            TextFault::Refused { why, .. } => why.cause(),
+        }
+    }
+}
+
+// As a user is told of it: by its line and column, and by its number, its place and its cause.
+impl fmt::Display for TextFault {
+    ghost output = { λ f. Some (fault_text f) };
+
+    fn fmt<W: fmt::Write>(&self, f: &mut fmt::Formatter<W>) -> fmt::Result {
+        let line = self.line();
+        let column = self.column();
+        let number = self.number();
+        let place = self.place();
+        let cause = self.cause();
+        write!(f, "fault {line} {column} ")?;
+        write!(f, "{number} {place} {cause}")
+    }
+}
+
+impl std::error::Error for TextFault {}
+
+// A buffer of so many bytes holds the line of each fault: a word, and five numbers of at most 20 digits, each
+// behind a blank.
+pub const FAULT_BYTES: usize = 111;
+
+// Prints the fault as a line, and answers how many bytes that took. A buffer that is too short is left
+// untouched.
+#[tactic(auto, using(crate::proofs::Told::line_told, crate::proofs::Told::line_short))]
+pub fn write_fault(fault: TextFault, buffer: &mut [u8]) -> Result<usize, Refusal>
+    ensures short { length (fault_line fault) ≤ 111 }
+    ensures answer { result ≡ answer_text buffer.old (fault_line fault) }
+    ensures buffer { buffer.new ≡ filled (judge_text buffer.old (fault_line fault)) buffer.old (fault_line fault) }
+{
+    let told = FaultLine {
+        line: fault.line(),
+        column: fault.column(),
+        number: fault.number(),
+        place: fault.place(),
+        cause: fault.cause(),
+    };
+    faults::write_fault(told, buffer)
+}
