@@ -6,8 +6,8 @@ use Rattle.network.specs.Balances.{Balances}
 use Rattle.network.specs.Flows.{NodesKeep, FirstNode}
 use Rattle.network.specs.Laws.{LawsHold, FirstLaw}
 use Rattle.network.specs.Walks.{network_of, Refuted}
-use Rattle.check.specs.declared.verdicts.Verdict.{Verdict}
-use Rattle.check.specs.declared.verdicts.Verdict.TheVariants.{Holds, Law, Node, Row}
+use Rattle.checking.specs.declared.verdicts.Verdict.{Verdict}
+use Rattle.checking.specs.declared.verdicts.Verdict.TheVariants.{Holds, Law, Node, Row}
 
 -- The readings agree with the netlist. Else law k is the lowest that fails. If none does, node n is the
 -- lowest whose flows do not add to zero. If none is, row k is the lowest such that the rows up to it have a

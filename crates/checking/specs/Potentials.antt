@@ -4,8 +4,8 @@ use Rattle.quantity.specs.Group.{Group}
 use Rattle.netlist.specs.Netlist.{Netlist}
 use Rattle.network.specs.Walks.{network_of, read, Lowest}
 use Rattle.readings.specs.Readings.{EquationsHold}
-use Rattle.check.specs.declared.verdicts.Verdict.{Verdict}
-use Rattle.check.specs.declared.verdicts.Verdict.TheVariants.{Holds, Law, Node, Row}
+use Rattle.checking.specs.declared.verdicts.Verdict.{Verdict}
+use Rattle.checking.specs.declared.verdicts.Verdict.TheVariants.{Holds, Law, Node, Row}
 
 -- a node from which no walk comes to the earth or to a lower node is at zero
 abbrev pub GroundedNodes : {G : Type 0} → Group G → Netlist → List G → (ℕ → G) → Type 0

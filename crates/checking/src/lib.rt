@@ -1,8 +1,10 @@
 // Whether readings agree with an issued sheet, and the potentials if they do.
 #![tactic(auto)]
 
-mod checking;
+mod checks;
+mod counts;
+mod searching;
 mod verdicts;
 
-pub use checking::check;
+pub use checks::check;
 pub use verdicts::Verdict;

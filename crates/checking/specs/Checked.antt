@@ -5,9 +5,9 @@ use Rattle.netlist.specs.declared.refusals.Refusal.{Refusal}
 use Rattle.netlist.specs.declared.refusals.Refusal.TheVariants.{WrongCount}
 use Rattle.netlist.specs.Netlist.{Netlist}
 use Rattle.netlist.specs.Rules.{Tests, first_of}
-use Rattle.check.specs.declared.verdicts.Verdict.{Verdict}
-use Rattle.check.specs.Verdicts.{VerdictIs}
-use Rattle.check.specs.Potentials.{Filled}
+use Rattle.checking.specs.declared.verdicts.Verdict.{Verdict}
+use Rattle.checking.specs.Verdicts.{VerdictIs}
+use Rattle.checking.specs.Potentials.{Filled}
 
 -- check(values, rates, potentials): a value and a rate for each variable, and a potential for each node
 abbrev pub table_check : Netlist → ℕ → ℕ → ℕ → Tests
