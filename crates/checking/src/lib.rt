@@ -6,5 +6,5 @@ mod counts;
 mod searching;
 mod verdicts;
 
-pub use checks::check;
+pub use checks::{check, one_verdict};
 pub use verdicts::Verdict;
