@@ -3,7 +3,7 @@ use Rattle.std.specs.Prelude.{ℕ, ◌+◌, List, ◌++◌, codes, decimal}
 use Rattle.netlist.specs.declared.refusals.Argument.{Argument}
 use Rattle.netlist.specs.declared.refusals.Argument.TheVariants.{Domain as DomainNumber, Flow, Across, First, Second, Node, Term as TermNumber, End}
 use Rattle.netlist.specs.declared.refusals.Refusal.{Refusal}
-use Rattle.netlist.specs.declared.refusals.Refusal.TheVariants.{Limit, NoNode, NoVariable, Domain, Taken, Coefficient, TermCount, Void, PlanRow, PlanLaw, Order, ShortBuffer, NoEquation}
+use Rattle.netlist.specs.declared.refusals.Refusal.TheVariants.{Limit, NoNode, NoVariable, Domain, Taken, Coefficient, TermCount, Void, PlanRow, PlanLaw, Order, ShortBuffer, WrongCount, NoEquation}
 use Rattle.netlist.specs.declared.refusals.Table.{Table}
 use Rattle.netlist.specs.declared.refusals.Table.TheVariants.{Nodes, Variables, Rows, Laws, Terms}
 
@@ -20,6 +20,7 @@ number (PlanRow row inner) = 9
 number (PlanLaw law inner) = 9
 number (Order term) = 10
 number ShortBuffer = 13
+number WrongCount = 14
 number NoEquation = 15
 
 abbrev pub table_number : Table → ℕ
@@ -56,6 +57,7 @@ place (PlanRow row inner) = row
 place (PlanLaw law inner) = 10000 + law
 place (Order term) = term
 place ShortBuffer = 0
+place WrongCount = 0
 place NoEquation = 0
 
 -- the number of the inner refusal, where one in a plan led to this one, else 0
@@ -72,6 +74,7 @@ cause (PlanRow row inner) = inner
 cause (PlanLaw law inner) = inner
 cause (Order term) = 0
 cause ShortBuffer = 0
+cause WrongCount = 0
 cause NoEquation = 0
 
 -- how a user is told of it

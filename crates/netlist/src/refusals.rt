@@ -54,6 +54,8 @@ pub enum Refusal {
     Order { term: usize },
     // A buffer for terms, spans, a line or the header is short.
     ShortBuffer,
+    // A number of values, rates or potentials is wrong.
+    WrongCount,
     // There is no equation of this number.
     NoEquation,
 }
@@ -108,6 +110,7 @@ impl Refusal {
             Refusal::PlanRow { .. } | Refusal::PlanLaw { .. } => 9,
             Refusal::Order { .. } => 10,
             Refusal::ShortBuffer => 13,
+            Refusal::WrongCount => 14,
             Refusal::NoEquation => 15,
         }
     }
@@ -125,7 +128,8 @@ impl Refusal {
             Refusal::Void => 1,
             Refusal::PlanRow { row, .. } => usize::from(row),
             Refusal::PlanLaw { law, .. } => FIRST_LAW + usize::from(law),
-            Refusal::TermCount | Refusal::ShortBuffer | Refusal::NoEquation => 0,
+            Refusal::TermCount | Refusal::ShortBuffer | Refusal::WrongCount | Refusal::NoEquation =>
+                0,
         }
     }
 

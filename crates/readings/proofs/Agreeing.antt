@@ -66,7 +66,7 @@ module _ {G : Type 0} (𝓖 : Group G) where
           }
 
       -- equation i is a law's, a node's or a row's
-      holds_from : LawsHold 𝓖 b.laws values rates (length b.laws) → NodesKeep 𝓖 b.rows values (length b.domains) → Satisfies 𝓖 Rows (length b.rows) (with_earth 𝓖 p) → EquationsHold 𝓖 b values rates p
+      pub holds_from : LawsHold 𝓖 b.laws values rates (length b.laws) → NodesKeep 𝓖 b.rows values (length b.domains) → Satisfies 𝓖 Rows (length b.rows) (with_earth 𝓖 p) → EquationsHold 𝓖 b values rates p
       holds_from laws nodes rows i l =
           let parts = equation_parts in
           ⊎_elim

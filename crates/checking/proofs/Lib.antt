@@ -1,0 +1,3 @@
+pub mod Fitting
+pub mod Filling
+pub mod Deciding

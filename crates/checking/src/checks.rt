@@ -1,0 +1,43 @@
+// The check of readings against a sheet.
+ghost use Rattle.checking.specs.Checked.{Checked};
+ghost use Rattle.checking.specs.Verdicts.{OneVerdict};
+
+use crate::counts::judge_counts;
+use crate::searching::{first_law, first_node};
+use crate::verdicts::Verdict;
+use netlist::refusals::Refusal;
+use quantity::Quantity;
+use sheet::Sheet;
+use walk_test::{ByVariable, Finding, Workspace, clear, test_walks};
+
+// Takes a value and a rate of each variable, and says whether they agree with the sheet. If they do, the
+// buffer gets the potential of each node: they satisfy all equations, the earth is at zero and so is the lowest
+// node of each part without an earth. If not, each potential is zero.
+pub fn check<K: Quantity>(
+    sheet: &Sheet,
+    values: &[K],
+    rates: &[K],
+    potentials: &mut [K],
+    workspace: &mut Workspace,
+) -> Result<Verdict, Refusal>
+    ensures { Checked K.group sheet.now values.now rates.now potentials.old potentials.new result }
+{
+    judge_counts(sheet, values.len(), rates.len(), potentials.len())?;
+    clear(potentials);
+    if let Some(law) = first_law(sheet, values, rates) {
+        return Ok(Verdict::Law { law });
+    }
+    if let Some(node) = first_node(sheet, values) {
+        return Ok(Verdict::Node { node });
+    }
+    match test_walks(sheet.rows(), &ByVariable { values }, potentials, workspace).unwrap() {
+        Finding::Balanced => Ok(Verdict::Holds),
+        Finding::Unbalanced { row } => Ok(Verdict::Row { row }),
+    }
+}
+
+// `check` is left no choice: readings of a sheet have one verdict. This computes nothing: the theorem is
+// the contract.
+pub fn one_verdict<K: Quantity>()
+    ensures { OneVerdict K.group }
+{}

@@ -1,0 +1,10 @@
+// Whether readings agree with an issued sheet, and the potentials if they do.
+#![tactic(auto)]
+
+mod checks;
+mod counts;
+mod searching;
+mod verdicts;
+
+pub use checks::{check, one_verdict};
+pub use verdicts::Verdict;
