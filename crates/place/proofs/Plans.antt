@@ -1,12 +1,15 @@
 -- What an assembly tells of its plan. Assumes nothing.
-use Rattle.std.proofs.Common.{◌≡◌, ℕ, ◌+◌, List, [], ◌∷◌, ◌++◌, length, Some, refl, ap, ◌∙◌, arith}
+use Rattle.std.proofs.Common.{◌≡◌, ℕ, ◌+◌, List, [], ◌∷◌, ◌++◌, length, Some, None, refl, ap, ◌∙◌, arith}
 use Rattle.std.specs.List.{slice_get}
+use Rattle.std.specs.Option.{IsSome}
 use Rattle.netlist.specs.declared.domains.Domain.{Domain}
 use Rattle.netlist.specs.declared.refusals.Argument.TheVariants.{End}
 use Rattle.netlist.specs.Netlist.{Netlist}
 use Rattle.netlist.specs.Rules.{Tests, first_of, domain_of}
+use Rattle.netlist.proofs.Tables.{passed_over}
 use Rattle.judging.specs.Judging.{node_tests}
-use Rattle.assembly.specs.Meaning.{Meaning, void, plan, Proper, domains_of}
+use Rattle.assembly.specs.declared.plans.Size.{Size}
+use Rattle.assembly.specs.Meaning.{Meaning, void, plan, Proper, size_of, domains_of}
 use Rattle.assembly.proofs.Nth.{nth_append_right}
 use Rattle.place.specs.Parts.{plan_of, judge_void_ends, domain_tests}
 use Rattle.place.specs.Place.{drawn_tests, end_tests}
@@ -32,6 +35,24 @@ two_ends (x ∷ y ∷ []) inner domains first second d e two h k =
     λ i. first_of (two_tests domains first second (one i) (other i))
 two_ends (x ∷ y ∷ z ∷ ends) inner domains first second d e two h k = absurd (omega (arith, two))
 
-pub ends_told : (b : Netlist) (first second : ℕ) (m : Meaning) (d e : Domain) → Proper m → slice_get (domains_of m) 0 ≡ Some d → slice_get (domains_of m) 1 ≡ Some e → judge_void_ends b (first ∷ second ∷ []) m ≡ first_of (two_tests b.domains first second d e)
+ends_told : (b : Netlist) (first second : ℕ) (m : Meaning) (d e : Domain) → Proper m → slice_get (domains_of m) 0 ≡ Some d → slice_get (domains_of m) 1 ≡ Some e → judge_void_ends b (first ∷ second ∷ []) m ≡ first_of (two_tests b.domains first second d e)
 ends_told b first second void d e proper h k = let z : ◌≡◌ {A = ℕ} 0 1 = cc in absurd (omega arith)
 ends_told b first second (plan p) d e proper h k = two_ends p.ends p.inner b.domains first second d e proper.two_ends h k
+
+-- once both nodes are drawn, their domains are left to test
+pub ends_left : (b : Netlist) (first second : ℕ) (m : Meaning) (d e : Domain) → Proper m → slice_get (domains_of m) 0 ≡ Some d → slice_get (domains_of m) 1 ≡ Some e → first_of (node_tests b.domains first (End 0)) ≡ None → first_of (node_tests b.domains second (End 1)) ≡ None → judge_void_ends b (first ∷ second ∷ []) m ≡ first_of (domain_tests (domain_of b.domains first) d (End 0) ++ domain_tests (domain_of b.domains second) e (End 1))
+ends_left b first second m d e proper h k one other =
+    let left = domain_tests (domain_of b.domains first) d (End 0) ++ domain_tests (domain_of b.domains second) e (End 1) in
+    ends_told b first second m d e proper h k
+    ∙ passed_over (node_tests b.domains first (End 0)) (node_tests b.domains second (End 1) ++ left) one
+    ∙ passed_over (node_tests b.domains second (End 1)) left other
+
+-- an assembly that has a size has two ends
+two_there : (ends inner : List Domain) → length ends ≡ 2 → IsSome (slice_get (ends ++ inner) 0) × IsSome (slice_get (ends ++ inner) 1)
+two_there [] inner two = absurd (omega (arith, two))
+two_there (d ∷ []) inner two = absurd (omega (arith, two))
+two_there (d ∷ e ∷ ends) inner two = (refl, refl)
+
+pub ends_there : (m : Meaning) (size : Size) → Proper m → size_of m ≡ Some size → IsSome (slice_get (domains_of m) 0) × IsSome (slice_get (domains_of m) 1)
+ends_there void size proper h = let z : ◌≡◌ {A = ℕ} 0 1 = cc in absurd (omega arith)
+ends_there (plan p) size proper h = two_there p.ends p.inner proper.two_ends

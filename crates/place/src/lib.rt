@@ -30,10 +30,7 @@ pub fn place<A: Assembly>(
     ensures netlist { draft.new ≡ after_place draft.old (A.Assembly.meaning part.now) (first ∷ second ∷ []) }
 {
     let before = draft.counts();
-    let Some(size) = part.size() else {
-        return Err(Refusal::Void);
-    };
-    judge_ends(draft, part, first, second)?;
+    let size = judge_ends(draft, part, first, second)?;
     let terms = judge_plan(part)?;
     draft.judge_room(added(size), terms)?;
     let seat = Seat {

@@ -14,7 +14,7 @@ pub returns-in_err-terms-clause-answer : goal.returns-in_err-terms-clause-answer
 returns-in_err-terms-clause-answer g c =
     let b = c.args.draft.now in
     let m = g.A.Assembly.meaning c.args.part.now in
-    let judged = stops_inside b c.counts-before.ensures.sound c.args.first c.args.second m _ c.size.ensures.proper c.in_ok-judge_ends.ensures c.in_err-terms.ensures in
+    let judged = stops_inside b c.counts-before.ensures.sound c.args.first c.args.second m _ c.judge_ends.ensures.proper c.in_ok-size.ensures.judged.0 c.in_err-terms.ensures in
     let p = err_from_is_err_and c.from_residual-in_err-terms.result c.from_residual-in_err-terms.ensures.1 in
     rw (p.1, p.2) (sym (ap (λ (o : Option Refusal). answer o (counts_of b)) judged))
 
@@ -22,7 +22,7 @@ pub returns-in_err-terms-clause-netlist : goal.returns-in_err-terms-clause-netli
 returns-in_err-terms-clause-netlist g c =
     let b = c.args.draft.now in
     let m = g.A.Assembly.meaning c.args.part.now in
-    let judged = stops_inside b c.counts-before.ensures.sound c.args.first c.args.second m _ c.size.ensures.proper c.in_ok-judge_ends.ensures c.in_err-terms.ensures in
+    let judged = stops_inside b c.counts-before.ensures.sound c.args.first c.args.second m _ c.judge_ends.ensures.proper c.in_ok-size.ensures.judged.0 c.in_err-terms.ensures in
     sym (ap (λ (o : Option Refusal). after o b (with_assembly b m (c.args.first ∷ c.args.second ∷ []))) judged)
 
 pub returns-in_err-judge_room-clause-answer : goal.returns-in_err-judge_room-clause-answer
@@ -31,7 +31,7 @@ returns-in_err-judge_room-clause-answer g c =
     let m = g.A.Assembly.meaning c.args.part.now in
     let passed = c.in_ok-terms.ensures in
     let judged =
-    left_to_room b c.counts-before.ensures.sound c.args.first c.args.second m c.in-Some.size c.size.ensures.proper c.in_ok-judge_ends.ensures passed.0 (sym c.size.ensures.value ∙ c.in-Some.is)
+    left_to_room b c.counts-before.ensures.sound c.args.first c.args.second m c.in_ok-size.size c.judge_ends.ensures.proper c.in_ok-size.ensures.judged.0 passed.0 c.in_ok-size.ensures.judged.1
     ∙ sym (λ i. first_of (room_tests b (c.added.ensures i) (passed.1 i)))
     ∙ c.in_err-judge_room.ensures in
     let p = err_from_is_err_and c.from_residual-in_err-judge_room.result c.from_residual-in_err-judge_room.ensures.1 in
@@ -40,15 +40,15 @@ returns-in_err-judge_room-clause-answer g c =
 pub draw-requires-clause-rows : goal.draw-requires-clause-rows
 draw-requires-clause-rows g c =
     let m = g.A.Assembly.meaning c.args.part.now in
-    (passed_there c.args.draft.now c.counts-before.ensures.sound c.args.first c.args.second m c.size.ensures.proper c.in_ok-judge_ends.ensures c.in_ok-terms.ensures.0).0
+    (passed_there c.args.draft.now c.counts-before.ensures.sound c.args.first c.args.second m c.judge_ends.ensures.proper c.in_ok-size.ensures.judged.0 c.in_ok-terms.ensures.0).0
 
 pub draw-requires-clause-laws : goal.draw-requires-clause-laws
 draw-requires-clause-laws g c =
     let b = c.args.draft.now in
     let m = g.A.Assembly.meaning c.args.part.now in
-    let many = variables_are m c.in-Some.size (sym c.size.ensures.value ∙ c.in-Some.is) in
+    let many = variables_are m c.in_ok-size.size c.in_ok-size.ensures.judged.1 in
     ap (λ (n : ℕ). judge_laws (b.variables + n) 0 (moved_laws b (plan_of m))) (sym many)
-    ∙ (passed_there b c.counts-before.ensures.sound c.args.first c.args.second m c.size.ensures.proper c.in_ok-judge_ends.ensures c.in_ok-terms.ensures.0).1
+    ∙ (passed_there b c.counts-before.ensures.sound c.args.first c.args.second m c.judge_ends.ensures.proper c.in_ok-size.ensures.judged.0 c.in_ok-terms.ensures.0).1
 
 pub returns-clause-answer : goal.returns-clause-answer
 returns-clause-answer g c =
@@ -56,7 +56,7 @@ returns-clause-answer g c =
     let m = g.A.Assembly.meaning c.args.part.now in
     let passed = c.in_ok-terms.ensures in
     let judged =
-    left_to_room b c.counts-before.ensures.sound c.args.first c.args.second m c.in-Some.size c.size.ensures.proper c.in_ok-judge_ends.ensures passed.0 (sym c.size.ensures.value ∙ c.in-Some.is)
+    left_to_room b c.counts-before.ensures.sound c.args.first c.args.second m c.in_ok-size.size c.judge_ends.ensures.proper c.in_ok-size.ensures.judged.0 passed.0 c.in_ok-size.ensures.judged.1
     ∙ sym (λ i. first_of (room_tests b (c.added.ensures i) (passed.1 i)))
     ∙ c.in_ok-judge_room.ensures in
     rw c.counts-before.ensures.value (sym (ap (λ (o : Option Refusal). answer o (counts_of b)) judged))
@@ -67,9 +67,9 @@ returns-clause-netlist g c =
     let m = g.A.Assembly.meaning c.args.part.now in
     let given = c.args.first ∷ c.args.second ∷ [] in
     let passed = c.in_ok-terms.ensures in
-    let sized = sym c.size.ensures.value ∙ c.in-Some.is in
+    let sized = c.in_ok-size.ensures.judged.1 in
     let judged =
-    left_to_room b c.counts-before.ensures.sound c.args.first c.args.second m c.in-Some.size c.size.ensures.proper c.in_ok-judge_ends.ensures passed.0 sized
+    left_to_room b c.counts-before.ensures.sound c.args.first c.args.second m c.in_ok-size.size c.judge_ends.ensures.proper c.in_ok-size.ensures.judged.0 passed.0 sized
     ∙ sym (λ i. first_of (room_tests b (c.added.ensures i) (passed.1 i)))
     ∙ c.in_ok-judge_room.ensures in
-    c.draw.ensures ∙ with_is b given m c.in-Some.size sized ∙ sym (ap (λ (o : Option Refusal). after o b (with_assembly b m given)) judged)
+    c.draw.ensures ∙ with_is b given m c.in_ok-size.size sized ∙ sym (ap (λ (o : Option Refusal). after o b (with_assembly b m given)) judged)
