@@ -1,26 +1,20 @@
--- What the walk test finds and leaves, where the laws hold and nothing flows out of any node. Assumes nothing.
-use Rattle.std.proofs.Common.{◌≡◌, ℕ, zero, suc, ◌+◌, ◌<◌, List, length, replicate, Result, Ok, refl, sym, ap, ◌∙◌, ap₂, subst, subst₂, add-one, arith}
+-- The filling of a sound netlist is what solves its rows. Assumes nothing.
+use Rattle.std.proofs.Common.{◌≡◌, ℕ, zero, suc, ◌+◌, ◌<◌, List, length, refl, sym, ap, ◌∙◌, ap₂, subst, add-one, arith}
 use Rattle.quantity.specs.Group.{Group, minus}
-use Rattle.netlist.specs.declared.rows.Row.{Row}
 use Rattle.netlist.specs.Netlist.{Netlist}
 use Rattle.netlist.specs.Sound.{Sound}
 use Rattle.network.specs.Balances.{Balances}
 use Rattle.network.specs.Flows.{NodesKeep}
 use Rattle.network.specs.Laws.{LawsHold}
-use Rattle.network.specs.Walks.{Network, network_of, read, Satisfies, Lowest, Grounded, Solved, Refuted}
+use Rattle.network.specs.Walks.{Network, network_of, read, Satisfies, Lowest, Grounded, Solved}
 use Rattle.network.proofs.Flowing.{sets_keep_as_nodes}
 use Rattle.network.proofs.Walking.{potentials_balance}
-use Rattle.equation.specs.Equations.{equations_of}
 use Rattle.equation.proofs.Counting.{equations_are}
 use Rattle.readings.specs.Readings.{EquationsHold}
 use Rattle.readings.specs.Agreement.{with_earth}
-use Rattle.readings.proofs.Agreeing.{equations_by_part, holds_from}
+use Rattle.readings.proofs.Agreeing.{same_vertex, equations_by_part, holds_from}
 use Rattle.readings.proofs.Drawing.{sound_drawn}
-use Rattle.walk_test.specs.declared.findings.Finding.{Finding}
-use Rattle.walk_test.specs.declared.findings.Finding.TheVariants.{Balanced, Unbalanced}
-use Rattle.walk_test.specs.declared.findings.Misfit.{Misfit}
 use Rattle.walk_test.specs.Potentials.{potential_at}
-use Rattle.walk_test.specs.Tested.{Tested}
 use Rattle.walk_test.proofs.Moving.{node_potential}
 use Rattle.checking.specs.Potentials.{GroundedNodes, Filling}
 
@@ -29,12 +23,15 @@ module _ {G : Type 0} (𝓖 : Group G) where
   vertex_same ps zero = refl
   vertex_same ps (suc n) = refl
 
-  module _ (b : Netlist) (sound : Sound b) (values rates ps : List G) (count : length ps ≡ length b.domains) where
+  module _ (b : Netlist) (sound : Sound b) (values rates ps : List G) where
     abbrev R : Network G
     R = network_of 𝓖 b.rows values
 
+    abbrev Solves : (ℕ → G) → Type 0
+    Solves p = Solved 𝓖 R (length b.domains + 1) (length b.rows) p
+
     -- zero at the lowest nodes, and at the earth
-    grounded_vertices : (q : ℕ → G) → GroundedNodes 𝓖 b values q → Grounded 𝓖 R (length ps + 1) (length b.rows) (with_earth 𝓖 q)
+    grounded_vertices : (q : ℕ → G) → GroundedNodes 𝓖 b values q → Grounded 𝓖 R (length b.domains + 1) (length b.rows) (with_earth 𝓖 q)
     grounded_vertices q grounded zero l lowest = refl
     grounded_vertices q grounded (suc n) l lowest = grounded n (omega arith) (subst (Lowest R (length b.rows)) (sym (add-one n)) lowest)
 
@@ -43,16 +40,16 @@ module _ {G : Type 0} (𝓖 : Group G) where
         let parts = equations_by_part 𝓖 b sound values rates q in
         (parts.row_holds j l).0 (holds (length b.laws + (length b.domains + j)) (omega (arith, equations_are b sound)))
 
-    module _ (laws : LawsHold 𝓖 b.laws values rates (length b.laws)) (nodes : NodesKeep 𝓖 b.rows values (length b.domains)) (solved : Solved 𝓖 R (length ps + 1) (length b.rows) (potential_at 𝓖 ps)) where
-      balances : Balances 𝓖 b values rates
-      balances = record {
+    module _ (laws : LawsHold 𝓖 b.laws values rates (length b.laws)) (nodes : NodesKeep 𝓖 b.rows values (length b.domains)) where
+      pub balances : Solves (potential_at 𝓖 ps) → Balances 𝓖 b values rates
+      balances solved = record {
         laws = laws;
         sets = (sets_keep_as_nodes 𝓖 b.rows values (length b.domains) (sound_drawn b sound)).1 nodes;
         walks = potentials_balance 𝓖 R (length b.rows) (potential_at 𝓖 ps) solved.satisfies;
       }
 
-      filling : Filling 𝓖 b values rates ps
-      filling = record {
+      pub filling : Solves (potential_at 𝓖 ps) → Filling 𝓖 b values rates ps
+      filling solved = record {
         fits = holds_from 𝓖 b sound values rates (read 𝓖 ps) laws nodes
             (λ j l. solved.satisfies j l ∙ ap₂ (minus 𝓖) (vertex_same ps (R.tail j)) (vertex_same ps (R.head j)));
         grounded = λ n l lowest. sym (node_potential 𝓖 ps n) ∙ solved.grounded (n + 1) (omega arith) lowest;
@@ -62,19 +59,18 @@ module _ {G : Type 0} (𝓖 : Group G) where
             ∙ node_potential 𝓖 ps n;
       }
 
-  -- the walk test's answer, told of the netlist's own rows
-  told : (rows own : List (Row ℕ)) (values old new : List G) (found : Result Finding Misfit) (finding : Finding) → rows ≡ own → found ≡ Ok finding → Tested 𝓖 rows (network_of 𝓖 rows values) old new found → Tested 𝓖 own (network_of 𝓖 own values) old new (Ok finding)
-  told rows own values old new found finding same is tested =
-      subst₂ (λ (rs : List (Row ℕ)) (f : Result Finding Misfit). Tested 𝓖 rs (network_of 𝓖 rs values) old new f) same is tested
+      only_filling : Filling 𝓖 b values rates ps → (q : ℕ → G) → Satisfies 𝓖 R (length b.rows) q → Grounded 𝓖 R (length b.domains + 1) (length b.rows) q → (v : ℕ) → v < length b.domains + 1 → q v ≡ potential_at 𝓖 ps v
+      only_filling filled q fits grounded zero l = grounded 0 (omega arith) (λ u s w. omega arith)
+      only_filling filled q fits grounded (suc n) l =
+          let earth : q 0 ≡ 𝓖.zero = grounded 0 (omega arith) (λ u s w. omega arith) in
+          let holds = holds_from 𝓖 b sound values rates (λ u. q (u + 1)) laws nodes
+          (λ j k. fits j k ∙ ap₂ (minus 𝓖) (same_vertex 𝓖 q earth (R.tail j)) (same_vertex 𝓖 q earth (R.head j))) in
+          ap q (sym (add-one n)) ∙ filled.only (λ u. q (u + 1)) holds (λ u k lowest. grounded (u + 1) (omega arith) lowest) n (omega arith)
 
-  module _ (b : Netlist) (sound : Sound b) (values rates old new : List G) (count : length old ≡ length b.domains) (laws : LawsHold 𝓖 b.laws values rates (length b.laws)) (nodes : NodesKeep 𝓖 b.rows values (length b.domains)) (rows : List (Row ℕ)) (same : rows ≡ b.rows) (found : Result Finding Misfit) (tested : Tested 𝓖 rows (network_of 𝓖 rows values) old new found) where
-    pub agree : found ≡ Ok Balanced → (length new ≡ length old) × Balances 𝓖 b values rates × Filling 𝓖 b values rates new
-    agree is =
-        let t = told rows b.rows values old new found Balanced same is tested in
-        let each : length new ≡ length b.domains = t.1 ∙ count in
-        (t.1, balances b sound values rates new each laws nodes t.2, filling b sound values rates new each laws nodes t.2)
-
-    pub row_fails : (k : ℕ) → found ≡ Ok (Unbalanced k) → (length new ≡ length old) × Refuted 𝓖 (network_of 𝓖 b.rows values) (length b.rows) k × (new ≡ replicate (length new) 𝓖.zero)
-    row_fails k is =
-        let t = told rows b.rows values old new found (Unbalanced k) same is tested in
-        (t.1, t.2.0, t.2.1)
+      -- what is filled is solved
+      pub solved : Filling 𝓖 b values rates ps → Solves (potential_at 𝓖 ps)
+      solved filled = record {
+        satisfies = λ j l. rows_satisfied (read 𝓖 ps) filled.fits j l ∙ sym (ap₂ (minus 𝓖) (vertex_same ps (R.tail j)) (vertex_same ps (R.head j)));
+        grounded = λ v l lowest. vertex_same ps v ∙ grounded_vertices (read 𝓖 ps) filled.grounded v l lowest;
+        only = only_filling filled;
+      }

@@ -1,8 +1,7 @@
 -- A check that begins has what the walk test asks for. Assumes nothing.
-use Rattle.std.proofs.Common.{◌≡◌, ℕ, ◌+◌, ◌<◌, ◌≤◌, true, false, not, ◌&&◌, nat_lt, List, length, Some, None, Option, Result, Ok, Err, refl, ap, ◌∙◌, sym, subst₂, arith}
-use Rattle.std.specs.List.{position}
+use Rattle.std.proofs.Common.{◌≡◌, ℕ, ◌+◌, ◌<◌, false, not, List, length, Some, None, Option, Result, Ok, Err, refl, ◌∙◌, sym, subst₂, arith}
 use Rattle.std.specs.Result.{IsOk}
-use Rattle.std.proofs.lemmas.Bool.{cases_lt, cond-false, le-ltb, true≢false}
+use Rattle.std.proofs.lemmas.Bool.{cond-false, le-ltb, true≢false}
 use Rattle.std.proofs.lemmas.Bool.Decides.{nat_tests}
 use Rattle.std.proofs.lemmas.List.Quantifiers.{position-Some}
 use Rattle.quantity.specs.Group.{Group}
@@ -12,7 +11,7 @@ use Rattle.netlist.specs.declared.rows.Row.TheVariants.{Branch, Earth}
 use Rattle.netlist.specs.Netlist.{Netlist}
 use Rattle.netlist.specs.Rules.{answer}
 use Rattle.netlist.specs.Sound.{Sound}
-use Rattle.network.specs.Walks.{Network, Drawn, row_at, no_row, tail_of, head_of}
+use Rattle.network.specs.Walks.{Network, row_at, no_row, tail_of, head_of}
 use Rattle.readings.proofs.Drawing.{sound_drawn}
 use Rattle.walk_test.specs.Drawn.{is_drawn, first_undrawn, undrawn, judged}
 use Rattle.walk_test.specs.declared.findings.Finding.{Finding}
@@ -25,9 +24,12 @@ pub accepted : (judged : Option Refusal) → Ok tt ≡ answer {X = Unit {0}} jud
 accepted None e = refl
 accepted (Some why) e = cc
 
+each_node : (b : Netlist) (values rates potentials : ℕ) → judge_check b values rates potentials ≡ None → potentials ≡ length b.domains
+each_node b values rates potentials e = grind (arith, nat_tests)
+
 -- so there is a potential for each node
-pub one_each : (b : Netlist) (values rates potentials : ℕ) → judge_check b values rates potentials ≡ None → potentials ≡ length b.domains
-one_each b values rates potentials e = grind (arith, nat_tests)
+pub one_each : (b : Netlist) (values rates potentials : ℕ) → Ok tt ≡ answer {X = Unit {0}} (judge_check b values rates potentials) tt → potentials ≡ length b.domains
+one_each b values rates potentials e = each_node b values rates potentials (accepted _ e)
 
 ends_drawn : (n : ℕ) (row : Row ℕ) → (tail_of row < n + 1) × (head_of row < n + 1) → not (is_drawn n row) ≡ false
 ends_drawn n (Branch flow across first second) e = grind (arith, nat_tests, e.0, e.1)

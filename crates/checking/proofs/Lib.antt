@@ -1,3 +1,5 @@
 pub mod Fitting
 pub mod Filling
+pub mod Answering
 pub mod Deciding
+pub mod Exactly

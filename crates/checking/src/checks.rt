@@ -1,4 +1,5 @@
 // The check of readings against a sheet.
+ghost use Rattle.netlist.specs.Sound.{Sound};
 ghost use Rattle.checking.specs.Checked.{Checked};
 ghost use Rattle.checking.specs.Verdicts.{OneVerdict};
 
@@ -20,8 +21,10 @@ pub fn check<K: Quantity>(
     potentials: &mut [K],
     workspace: &mut Workspace,
 ) -> Result<Verdict, Refusal>
-    ensures { Checked K.group sheet.now values.now rates.now potentials.old potentials.new result }
+    ensures checked { Checked K.group sheet.now values.now rates.now potentials.old potentials.new result }
+    ensures sound { Sound sheet.now }
 {
+    let rows = sheet.rows();
     judge_counts(sheet, values.len(), rates.len(), potentials.len())?;
     clear(potentials);
     if let Some(law) = first_law(sheet, values, rates) {
@@ -30,7 +33,7 @@ pub fn check<K: Quantity>(
     if let Some(node) = first_node(sheet, values) {
         return Ok(Verdict::Node { node });
     }
-    match test_walks(sheet.rows(), &ByVariable { values }, potentials, workspace).unwrap() {
+    match test_walks(rows, &ByVariable { values }, potentials, workspace).unwrap() {
         Finding::Balanced => Ok(Verdict::Holds),
         Finding::Unbalanced { row } => Ok(Verdict::Row { row }),
     }

@@ -5,6 +5,8 @@ mod checks;
 mod counts;
 mod searching;
 mod verdicts;
+mod wholes;
 
 pub use checks::{check, one_verdict};
 pub use verdicts::Verdict;
+pub use wholes::check_whole;

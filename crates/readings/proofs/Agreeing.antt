@@ -22,7 +22,7 @@ use Rattle.readings.proofs.Evaluating.{law_comes, node_comes, row_comes}
 
 module _ {G : Type 0} (𝓖 : Group G) where
   -- potentials of all vertices, with the earth at zero, from those of the nodes
-  same_vertex : (q : ℕ → G) → q 0 ≡ 𝓖.zero → (v : ℕ) → q v ≡ with_earth 𝓖 (λ u. q (u + 1)) v
+  pub same_vertex : (q : ℕ → G) → q 0 ≡ 𝓖.zero → (v : ℕ) → q v ≡ with_earth 𝓖 (λ u. q (u + 1)) v
   same_vertex q earth zero = earth
   same_vertex q earth (suc u) = ap q (sym (add-one u))
 

@@ -12,5 +12,5 @@ returns g c =
           (record { sheet = c.issue-sheet.result; listed = c.equations-listed.result; checked = c.check-checked.result })
           _
           (c.issue-sheet.ensures.netlist ∙ c.run.ensures)
-          c.issue-sheet.ensures.sound listed.answer listed.terms listed.spans listed.placed c.check-checked.ensures;
+          c.issue-sheet.ensures.sound listed.answer listed.terms listed.spans listed.placed c.check-checked.ensures.checked;
     }
