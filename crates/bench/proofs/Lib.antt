@@ -1,0 +1,6 @@
+pub mod Allowed
+pub mod Texts
+pub mod Answering
+pub mod Resistance
+pub mod Triangle
+pub mod Loop
