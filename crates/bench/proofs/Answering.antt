@@ -1,9 +1,10 @@
 -- What a check answers, from what is so of the readings. Assumes nothing.
-use Rattle.std.proofs.Common.{◌≡◌, ◌≢◌, ℕ, zero, suc, ◌<◌, ◌≤◌, Bool, false, eqb, List, [], ◌∷◌, length, replicate, ℤ, pos, negsuc, sym, ap, ◌∙◌, arith}
+use Rattle.std.proofs.Common.{◌≡◌, ◌≢◌, ℕ, zero, suc, ◌<◌, ◌≤◌, Bool, false, eqb, List, [], ◌∷◌, length, replicate, ℤ, pos, negsuc, Option, None, Some, Result, Ok, Err, sym, ap, subst, ◌∙◌, arith}
 use Rattle.std.proofs.lemmas.Bool.{true≢false}
 use Rattle.std.proofs.lemmas.Bool.Decides.{nat_tests}
-use Rattle.std.proofs.lemmas.List.{length-replicate}
+use Rattle.std.proofs.lemmas.List.{length-replicate, ext_get_or}
 use Rattle.quantity.specs.Group.{Group}
+use Rattle.netlist.specs.declared.refusals.Refusal.{Refusal}
 use Rattle.netlist.specs.Netlist.{Netlist}
 use Rattle.network.specs.Balances.{Balances}
 use Rattle.network.specs.Flows.{NodesKeep}
@@ -13,9 +14,12 @@ use Rattle.network.proofs.Flowing.{sets_keep_as_nodes}
 use Rattle.network.proofs.Walking.{potentials_balance}
 use Rattle.readings.specs.Agreement.{with_earth}
 use Rattle.checking.specs.declared.verdicts.Verdict.{Verdict}
+use Rattle.checking.specs.declared.verdicts.Verdict.TheVariants.{Holds, Law, Node, Row}
+use Rattle.checking.specs.Checked.{Checked, judge_check}
 use Rattle.checking.specs.Potentials.{Filled}
 use Rattle.checking.specs.Verdicts.{VerdictIs}
-use Rattle.bench.specs.Cases.{Answers}
+use Rattle.checking.proofs.Deciding.{one_verdict}
+use Rattle.bench.specs.Cases.{IsChecked}
 
 -- so of the first n numbers
 abbrev pub AllBelow : ℕ → (ℕ → Type 0) → Type 0
@@ -35,9 +39,30 @@ pub nonzero : (z : ℤ) → is_zero z ≡ false → z ≢ pos 0
 nonzero z e h = true≢false (sym (ap is_zero h) ∙ e)
 
 module _ {G : Type 0} (𝓖 : Group G) where
-  pub answers : (b : Netlist) (values : List G) (verdict : Verdict) (ps : List G) → length values ≡ b.variables → length ps ≡ length b.domains → VerdictIs 𝓖 b values (replicate (length values) 𝓖.zero) verdict → Filled 𝓖 b values (replicate (length values) 𝓖.zero) ps verdict → Answers 𝓖 b values verdict ps
-  answers b values verdict ps each-variable each-node is filled = λ old e.
-      (grind (arith, nat_tests, length-replicate), each-node ∙ sym e, is, filled)
+  same_potentials : (b : Netlist) (values rates ps new : List G) (v : Verdict) → length ps ≡ length b.domains → length new ≡ length b.domains → Filled 𝓖 b values rates ps v → Filled 𝓖 b values rates new v → new ≡ ps
+  same_potentials b values rates ps new Holds each each' f h = ext_get_or 𝓖.zero new ps (each' ∙ sym each) (λ n l. f.only (read 𝓖 new) h.fits h.grounded n (omega arith))
+  same_potentials b values rates ps new (Law k) each each' f h = h ∙ ap (λ n. replicate n 𝓖.zero) (each' ∙ sym each) ∙ sym f
+  same_potentials b values rates ps new (Node n) each each' f h = h ∙ ap (λ n. replicate n 𝓖.zero) (each' ∙ sym each) ∙ sym f
+  same_potentials b values rates ps new (Row k) each each' f h = h ∙ ap (λ n. replicate n 𝓖.zero) (each' ∙ sym each) ∙ sym f
+
+  module _ (b : Netlist) (values : List G) (verdict : Verdict) (ps : List G) (each_variable : length values ≡ b.variables) (each_node : length ps ≡ length b.domains) (is : VerdictIs 𝓖 b values (replicate (length values) 𝓖.zero) verdict) (filled : Filled 𝓖 b values (replicate (length values) 𝓖.zero) ps verdict) where
+    abbrev zeros : List G
+    zeros = replicate (length values) 𝓖.zero
+
+    begins : (old : List G) → length old ≡ length b.domains → judge_check b (length values) (length zeros) (length old) ≡ None
+    begins old e = grind (arith, nat_tests, length-replicate)
+
+    no_other : (old new : List G) (other : Result Verdict Refusal) → length old ≡ length b.domains → Checked 𝓖 b values zeros old new other → (other ≡ Ok verdict) × (new ≡ ps)
+    no_other old new (Ok v) e c =
+        let same : v ≡ verdict = one_verdict 𝓖 b values zeros v verdict c.2 is in
+        (ap (λ u. Ok u) same, same_potentials b values zeros ps new verdict each_node (c.1 ∙ e) filled (subst (Filled 𝓖 b values zeros new) same c.3))
+    no_other old new (Err why) e c =
+        let judged = begins old e in
+        let refused = c.0 in
+        absurd cc
+
+    pub answers : IsChecked 𝓖 b values verdict ps
+    answers = record { so = λ old e. (begins old e, each_node ∙ sym e, is, filled); only = no_other }
 
   pub balances : (b : Netlist) (values rates ps : List G) → Drawn b.rows (length b.domains) → LawsHold 𝓖 b.laws values rates (length b.laws) → NodesKeep 𝓖 b.rows values (length b.domains) → Satisfies 𝓖 (network_of 𝓖 b.rows values) (length b.rows) (with_earth 𝓖 (read 𝓖 ps)) → Balances 𝓖 b values rates
   balances b values rates ps drawn laws nodes satisfied = record {

@@ -6,7 +6,7 @@ use Rattle.network.specs.Walks.{Network, forward, Drawn, Lowest, Refuted, networ
 use Rattle.network.proofs.Walking.{potentials_balance}
 use Rattle.checking.specs.declared.verdicts.Verdict.TheVariants.{Holds, Row}
 use Rattle.checking.specs.Potentials.{Filling}
-use Rattle.bench.specs.Cases.{Answers}
+use Rattle.bench.specs.Cases.{IsChecked}
 use Rattle.bench.proofs.Answering.{below, nonzero, answers, balances, first_is_lowest}
 use Rattle.bench.proofs.Texts.{loop_drawn}
 
@@ -38,7 +38,7 @@ filling = record {
   only = λ q holds grounded. below 1 _ (grounded 0 (omega arith) lowest, tt);
 }
 
-pub loop_holds : Answers integers loop_drawn (values (pos 0)) Holds potentials
+pub loop_holds : IsChecked integers loop_drawn (values (pos 0)) Holds potentials
 loop_holds = answers integers loop_drawn (values (pos 0)) Holds potentials refl refl
     (balances integers loop_drawn (values (pos 0)) rates potentials drawn (λ k l. absurd (omega arith)) (keeps (pos 0)) (below 1 _ (refl, tt)))
     filling
@@ -50,7 +50,7 @@ refuted = record {
   here = (1, forward 0 ∷ [], (omega arith, refl, refl), nonzero (pos 1) refl);
 }
 
-pub loop_row : Answers integers loop_drawn (values (pos 1)) (Row 0) potentials
+pub loop_row : IsChecked integers loop_drawn (values (pos 1)) (Row 0) potentials
 loop_row = answers integers loop_drawn (values (pos 1)) (Row 0) potentials refl refl
     ((λ k l. absurd (omega arith)), keeps (pos 1), refuted)
     refl

@@ -6,7 +6,7 @@ use Rattle.network.specs.Walks.{Drawn, read}
 use Rattle.readings.specs.Readings.{EquationsHold}
 use Rattle.checking.specs.declared.verdicts.Verdict.TheVariants.{Holds, Law}
 use Rattle.checking.specs.Potentials.{Filling, GroundedNodes}
-use Rattle.bench.specs.Cases.{Answers}
+use Rattle.bench.specs.Cases.{IsChecked}
 use Rattle.bench.proofs.Answering.{below, nonzero, answers, balances}
 use Rattle.bench.proofs.Texts.{resistance_drawn}
 
@@ -32,7 +32,7 @@ filling = record {
   only = only;
 }
 
-pub resistance_holds : Answers integers resistance_drawn zeros Holds potentials
+pub resistance_holds : IsChecked integers resistance_drawn zeros Holds potentials
 resistance_holds = answers integers resistance_drawn zeros Holds potentials refl refl
     (balances integers resistance_drawn zeros zeros potentials drawn (below 2 _ (refl, (refl, tt))) (below 2 _ (refl, (refl, tt))) (below 2 _ (refl, (refl, tt))))
     filling
@@ -40,12 +40,12 @@ resistance_holds = answers integers resistance_drawn zeros Holds potentials refl
 abbrev uneven : List ℤ
 uneven = pos 0 ∷ pos 5 ∷ pos 0 ∷ pos 0 ∷ []
 
-pub resistance_law : Answers integers resistance_drawn uneven (Law 0) potentials
+pub resistance_law : IsChecked integers resistance_drawn uneven (Law 0) potentials
 resistance_law = answers integers resistance_drawn uneven (Law 0) potentials refl refl
     (record { within = omega arith; before = λ k l. absurd (omega arith); here = nonzero (negsuc 4) refl })
     refl
 
-pub nothing_holds : Answers integers empty [] Holds []
+pub nothing_holds : IsChecked integers empty [] Holds []
 nothing_holds = answers integers empty [] Holds [] refl refl
     (balances integers empty [] [] [] (λ j l. absurd (omega arith)) (λ k l. absurd (omega arith)) (λ u l. absurd (omega arith)) (λ j l. absurd (omega arith)))
     (record { fits = λ i l. absurd (omega arith); grounded = λ n l low. absurd (omega arith); only = λ q holds grounded n l. absurd (omega arith) })

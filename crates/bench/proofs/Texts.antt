@@ -1,5 +1,5 @@
 -- What the texts draw. Assumes nothing.
-use Rattle.std.proofs.Common.{◌≡◌, List, [], ◌∷◌, refl, arith, Ok, Err, codes, inl, inr, pos, negsuc}
+use Rattle.std.proofs.Common.{◌≡◌, sym, ◌∙◌, List, [], ◌∷◌, refl, arith, Ok, Err, codes, inl, inr, pos, negsuc}
 use Rattle.std.specs.Fmt.{digits}
 use Rattle.netlist.specs.Netlist.{Netlist, empty}
 use Rattle.netlist.specs.declared.refusals.Argument.TheVariants.{Across}
@@ -8,10 +8,13 @@ use Rattle.netlist.specs.declared.rows.Row.TheVariants.{Branch, Earth}
 use Rattle.netlist.specs.declared.terms.Order.TheVariants.{Value}
 use Rattle.text.specs.declared.kinds.Kind.{Kind}
 use Rattle.text.specs.declared.kinds.Kind.TheVariants.{Number, Coefficient}
+use Rattle.text.specs.Grammar.{Bytes}
 use Rattle.text.specs.Cut.{cut}
 use Rattle.sheet_reader.specs.declared.faults.TextFault.TheVariants.{Refused}
-use Rattle.sheet_reader.specs.Reading.{ReadsText}
+use Rattle.sheet_reader.specs.Reading.{Answer, ReadsText}
+use Rattle.sheet_reader.proofs.Laws.{reading_law}
 use Rattle.printing.specs.Printing.{printed}
+use Rattle.bench.specs.Cases.{IsPrinted}
 use Rattle.bench.specs.Table.{resistance, resistance_equations, triangle, loop, one_variable}
 use Rattle.bench.proofs.Allowed.{grouped}
 
@@ -128,14 +131,23 @@ pub nothing_read : ReadsText [] empty (Ok tt) empty
 unfolding cut
 nothing_read = inr (omega arith, (refl, refl))
 
-pub resistance_prints : resistance_equations ≡ printed (Ok tt) resistance_drawn
+-- what is printed of a text, and nothing else
+printed_of : (text bytes : Bytes) (answer : Answer) (b : Netlist) → ReadsText text empty answer b → bytes ≡ printed answer b → IsPrinted text answer bytes
+printed_of text bytes answer b reads e = record {
+  so = (b, reads, e);
+  only = λ other new p.
+      let same = (reading_law text empty b answer reads).only other p.0 p.1 in
+      (same.0, p.2 ∙ (λ i. printed (same.0 i) (same.1 i)) ∙ sym e);
+}
+
+pub resistance_prints : IsPrinted resistance (Ok tt) resistance_equations
 unfolding cut digits
-resistance_prints = refl
+resistance_prints = printed_of _ _ (Ok tt) resistance_drawn resistance_read refl
 
-pub nothing_prints : codes "equations 0\n" ≡ printed (Ok tt) empty
+pub nothing_prints : IsPrinted [] (Ok tt) (codes "equations 0\n")
 unfolding digits
-nothing_prints = refl
+nothing_prints = printed_of _ _ (Ok tt) empty nothing_read refl
 
-pub one_variable_prints : codes "fault 3 1 5 2 0\n" ≡ printed (Err (Refused 3 (Taken Across))) one_variable_drawn
+pub one_variable_prints : IsPrinted one_variable (Err (Refused 3 (Taken Across))) (codes "fault 3 1 5 2 0\n")
 unfolding digits
-one_variable_prints = refl
+one_variable_prints = printed_of _ _ (Err (Refused 3 (Taken Across))) one_variable_drawn one_variable_read refl

@@ -8,7 +8,7 @@ use Rattle.readings.specs.Agreement.{with_earth}
 use Rattle.readings.specs.Readings.{EquationsHold}
 use Rattle.checking.specs.declared.verdicts.Verdict.TheVariants.{Holds, Node, Row}
 use Rattle.checking.specs.Potentials.{Filling, GroundedNodes}
-use Rattle.bench.specs.Cases.{Answers}
+use Rattle.bench.specs.Cases.{IsChecked}
 use Rattle.bench.proofs.Answering.{below, nonzero, answers, balances, first_is_lowest}
 use Rattle.bench.proofs.Texts.{triangle_drawn}
 
@@ -57,7 +57,7 @@ filling = record {
   only = only;
 }
 
-pub triangle_holds : Answers integers triangle_drawn (values (pos 7)) Holds potentials
+pub triangle_holds : IsChecked integers triangle_drawn (values (pos 7)) Holds potentials
 triangle_holds = answers integers triangle_drawn (values (pos 7)) Holds potentials refl refl
     (balances integers triangle_drawn (values (pos 7)) rates potentials drawn (λ k l. absurd (omega arith)) (keeps (pos 7)) (below 3 _ (refl, (refl, (refl, tt)))))
     filling
@@ -69,12 +69,12 @@ refuted = record {
   here = (1, forward 0 ∷ forward 1 ∷ backward 2 ∷ [], (omega arith, refl, (omega arith, refl, (omega arith, refl, refl))), nonzero (negsuc 0) refl);
 }
 
-pub triangle_row : Answers integers triangle_drawn (values (pos 8)) (Row 2) (replicate 3 (pos 0))
+pub triangle_row : IsChecked integers triangle_drawn (values (pos 8)) (Row 2) (replicate 3 (pos 0))
 triangle_row = answers integers triangle_drawn (values (pos 8)) (Row 2) (replicate 3 (pos 0)) refl refl
     ((λ k l. absurd (omega arith)), keeps (pos 8), refuted)
     refl
 
-pub triangle_node : (x y z : ℤ) → Answers integers triangle_drawn (pos 1 ∷ x ∷ pos 1 ∷ y ∷ pos 1 ∷ z ∷ []) (Node 0) (replicate 3 (pos 0))
+pub triangle_node : (x y z : ℤ) → IsChecked integers triangle_drawn (pos 1 ∷ x ∷ pos 1 ∷ y ∷ pos 1 ∷ z ∷ []) (Node 0) (replicate 3 (pos 0))
 triangle_node x y z = answers integers triangle_drawn (pos 1 ∷ x ∷ pos 1 ∷ y ∷ pos 1 ∷ z ∷ []) (Node 0) (replicate 3 (pos 0)) refl refl
     ((λ k l. absurd (omega arith)), record { within = omega arith; before = λ u l. absurd (omega arith); here = nonzero (pos 2) refl })
     refl

@@ -1,7 +1,8 @@
 -- A case: something that is known of a sheet, and what it is for it to hold. Assumes nothing.
-use Rattle.std.specs.Prelude.{◌≡◌, List, [], length, replicate, ℕ, ℤ, Ok, Option}
+use Rattle.std.specs.Prelude.{◌≡◌, List, [], length, replicate, ℕ, ℤ, Ok, Option, Result}
 use Rattle.quantity.specs.Group.{Group}
 use Rattle.quantity.specs.Integers.{integers}
+use Rattle.netlist.specs.declared.refusals.Refusal.{Refusal}
 use Rattle.netlist.specs.Netlist.{Netlist, empty}
 use Rattle.text.specs.Grammar.{Bytes}
 use Rattle.sheet_reader.specs.Reading.{Answer, ReadsText}
@@ -22,14 +23,18 @@ pub data Case : Type 0 where
   -- so many of a single in series, and how much they have; nothing if they are void
   copied : ℕ → Single → Option Size → Case
 
--- whatever the buffer of potentials held
-abbrev pub Answers : {G : Type 0} → Group G → Netlist → List G → Verdict → List G → Type 0
-Answers {G} 𝓖 b values verdict potentials =
-    (old : List G) → length old ≡ length b.domains
-    → Checked 𝓖 b values (replicate (length values) 𝓖.zero) old potentials (Ok verdict)
+-- so the text is read and printed, and it cannot be otherwise
+pub record IsPrinted (text : Bytes) (answer : Answer) (bytes : Bytes) : Type 0 where
+  pub so : Prints text answer [] bytes
+  pub only : (other : Answer) (new : Bytes) → Prints text other [] new → (other ≡ answer) × (new ≡ bytes)
+
+-- so the readings are checked, whatever the buffer of potentials held, and it cannot be otherwise
+pub record IsChecked {G : Type 0} (𝓖 : Group G) (b : Netlist) (values : List G) (verdict : Verdict) (potentials : List G) : Type 0 where
+  pub so : (old : List G) → length old ≡ length b.domains → Checked 𝓖 b values (replicate (length values) 𝓖.zero) old potentials (Ok verdict)
+  pub only : (old new : List G) (other : Result Verdict Refusal) → length old ≡ length b.domains → Checked 𝓖 b values (replicate (length values) 𝓖.zero) old new other → (other ≡ Ok verdict) × (new ≡ potentials)
 
 abbrev pub Holds : Case → Type 0
-Holds (printed text answer bytes) = Prints text answer [] bytes
+Holds (printed text answer bytes) = IsPrinted text answer bytes
 Holds (checked text values verdict potentials) =
-    (b : Netlist) × ReadsText text empty (Ok tt) b × Answers integers b values verdict potentials
+    (b : Netlist) × ReadsText text empty (Ok tt) b × IsChecked integers b values verdict potentials
 Holds (copied times s size) = size_of (repeated times (single s)) ≡ size

@@ -1,6 +1,6 @@
 use Rattle.std.proofs.Common.{refl}
 use Rattle.netlist.specs.Netlist.{empty}
-use Rattle.bench.proofs.Texts.{resistance_drawn, triangle_drawn, loop_drawn, one_variable_drawn, resistance_read, triangle_read, loop_read, one_variable_read, nothing_read, resistance_prints, one_variable_prints, nothing_prints}
+use Rattle.bench.proofs.Texts.{resistance_drawn, triangle_drawn, loop_drawn, resistance_read, triangle_read, loop_read, nothing_read, resistance_prints, one_variable_prints, nothing_prints}
 use Rattle.bench.proofs.Resistance.{resistance_holds, resistance_law, nothing_holds}
 use Rattle.bench.proofs.Triangle.{triangle_holds, triangle_row, triangle_node}
 use Rattle.bench.proofs.Loop.{loop_holds, loop_row}
@@ -8,11 +8,11 @@ use Rattle.bench.proofs.known_sheets.Goals as goal
 
 pub returns : goal.returns
 returns c = λ x y z. (
-  (resistance_drawn, resistance_read, resistance_prints),
+  resistance_prints,
   (
-    (empty, nothing_read, nothing_prints),
+    nothing_prints,
     (
-      (one_variable_drawn, one_variable_read, one_variable_prints),
+      one_variable_prints,
       (
         (empty, nothing_read, nothing_holds),
         (
