@@ -1,4 +1,5 @@
 pub mod Allowed
+pub mod Short
 pub mod Texts
 pub mod Answering
 pub mod Resistance

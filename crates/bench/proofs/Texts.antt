@@ -10,13 +10,14 @@ use Rattle.text.specs.declared.kinds.Kind.{Kind}
 use Rattle.text.specs.declared.kinds.Kind.TheVariants.{Number, Coefficient}
 use Rattle.text.specs.Grammar.{Bytes}
 use Rattle.text.specs.Cut.{cut}
-use Rattle.sheet_reader.specs.declared.faults.TextFault.TheVariants.{Refused}
+use Rattle.sheet_reader.specs.declared.faults.TextFault.TheVariants.{Form, Refused}
 use Rattle.sheet_reader.specs.Reading.{Answer, ReadsText}
 use Rattle.sheet_reader.proofs.Laws.{reading_law}
 use Rattle.printing.specs.Printing.{printed}
 use Rattle.bench.specs.Cases.{IsPrinted}
-use Rattle.bench.specs.Table.{resistance, resistance_equations, triangle, loop, one_variable}
+use Rattle.bench.specs.Table.{resistance, resistance_equations, triangle, loop, one_variable, half_branch}
 use Rattle.bench.proofs.Allowed.{grouped}
+use Rattle.bench.proofs.Short.{half_branch_fault}
 
 abbrev pub resistance_drawn : Netlist
 resistance_drawn = record {
@@ -151,3 +152,11 @@ nothing_prints = printed_of _ _ (Ok tt) empty nothing_read refl
 pub one_variable_prints : IsPrinted one_variable (Err (Refused 3 (Taken Across))) (codes "fault 3 1 5 2 0\n")
 unfolding digits
 one_variable_prints = printed_of _ _ (Err (Refused 3 (Taken Across))) one_variable_drawn one_variable_read refl
+
+half_branch_read : ReadsText half_branch empty (Err (Form 1 8)) empty
+unfolding cut
+half_branch_read = inr (omega arith, inr ((refl, half_branch_fault), refl))
+
+pub half_branch_prints : IsPrinted half_branch (Err (Form 1 8)) (codes "fault 1 8 11 0 0\n")
+unfolding digits
+half_branch_prints = printed_of _ _ (Err (Form 1 8)) empty half_branch_read refl

@@ -3,7 +3,8 @@ use Rattle.std.specs.Prelude.{◌≡◌, List, [], length, replicate, ℕ, ℤ, 
 use Rattle.quantity.specs.Group.{Group}
 use Rattle.quantity.specs.Integers.{integers}
 use Rattle.netlist.specs.declared.refusals.Refusal.{Refusal}
-use Rattle.netlist.specs.Netlist.{Netlist, empty}
+use Rattle.netlist.specs.Netlist.{Netlist, empty, with_nodes}
+use Rattle.netlist.specs.Rules.{answer_node}
 use Rattle.text.specs.Grammar.{Bytes}
 use Rattle.sheet_reader.specs.Reading.{Answer, ReadsText}
 use Rattle.printing.specs.Printing.{Prints}
@@ -22,6 +23,8 @@ pub data Case : Type 0 where
   checked : Bytes → List ℤ → Verdict → List ℤ → Case
   -- so many of a single in series, and how much they have; nothing if they are void
   copied : ℕ → Single → Option Size → Case
+  -- one more node of domain 1 on a draft of so many, and what is answered
+  node_behind : ℕ → Result ℕ Refusal → Case
 
 -- so the text is read and printed, and it cannot be otherwise
 pub record IsPrinted (text : Bytes) (answer : Answer) (bytes : Bytes) : Type 0 where
@@ -38,3 +41,4 @@ Holds (printed text answer bytes) = IsPrinted text answer bytes
 Holds (checked text values verdict potentials) =
     (b : Netlist) × ReadsText text empty (Ok tt) b × IsChecked integers b values verdict potentials
 Holds (copied times s size) = size_of (repeated times (single s)) ≡ size
+Holds (node_behind nodes answer) = answer_node (with_nodes empty (replicate nodes 1)) 1 ≡ answer

@@ -2,13 +2,14 @@
 use Rattle.std.specs.Prelude.{List, [], ◌∷◌, codes, ℤ, pos, neg_ℤ, None, Some, Ok, Err}
 use Rattle.std.specs.List.{AllByRecursion}
 use Rattle.netlist.specs.declared.refusals.Argument.TheVariants.{Across}
-use Rattle.netlist.specs.declared.refusals.Refusal.TheVariants.{Taken}
+use Rattle.netlist.specs.declared.refusals.Refusal.TheVariants.{Limit, Taken}
+use Rattle.netlist.specs.declared.refusals.Table.TheVariants.{Nodes}
 use Rattle.assembly.specs.declared.plans.Size.{Size}
 use Rattle.parts.specs.declared.single.Single.{Single}
 use Rattle.text.specs.Grammar.{Bytes}
-use Rattle.sheet_reader.specs.declared.faults.TextFault.TheVariants.{Refused}
+use Rattle.sheet_reader.specs.declared.faults.TextFault.TheVariants.{Form, Refused}
 use Rattle.checking.specs.declared.verdicts.Verdict.TheVariants as verdict
-use Rattle.bench.specs.Cases.{Case, printed, checked, copied, Holds}
+use Rattle.bench.specs.Cases.{Case, printed, checked, copied, node_behind, Holds}
 
 -- a resistance from node 0 to node 1, which is earthed and kept at no current
 abbrev pub resistance : Bytes
@@ -29,6 +30,10 @@ loop = codes "N 1\nV 2\nB 0 1 0 0\n"
 abbrev pub one_variable : Bytes
 one_variable = codes "N 1\nV 1\nB 0 0 0 0\n"
 
+-- a branch without its second node
+abbrev pub half_branch : Bytes
+half_branch = codes "B 0 1 0"
+
 -- the flow's rate is as the across, 7 to 1
 abbrev pub spring : Single
 spring = record { domain = 3; flow = pos 0; across = neg_ℤ (pos 7); flow_rate = pos 1; across_rate = pos 0 }
@@ -42,6 +47,7 @@ table x y z =
     printed resistance (Ok tt) resistance_equations
     ∷ printed [] (Ok tt) (codes "equations 0\n")
     ∷ printed one_variable (Err (Refused 3 (Taken Across))) (codes "fault 3 1 5 2 0\n")
+    ∷ printed half_branch (Err (Form 1 8)) (codes "fault 1 8 11 0 0\n")
     ∷ checked [] [] verdict.Holds []
     ∷ checked resistance (pos 0 ∷ pos 0 ∷ pos 0 ∷ pos 0 ∷ []) verdict.Holds (pos 0 ∷ pos 0 ∷ [])
     ∷ checked resistance (pos 0 ∷ pos 5 ∷ pos 0 ∷ pos 0 ∷ []) (verdict.Law 0) (pos 0 ∷ pos 0 ∷ [])
@@ -52,6 +58,8 @@ table x y z =
     ∷ checked loop (pos 9 ∷ pos 1 ∷ []) (verdict.Row 0) (pos 0 ∷ [])
     ∷ copied 3 spring (Some three_springs)
     ∷ copied 0 spring None
+    ∷ node_behind 999 (Ok 999)
+    ∷ node_behind 1000 (Err (Limit Nodes))
     ∷ []
 
 -- THEOREM: every case of the table holds
