@@ -1,4 +1,4 @@
-// A draft is accepted: the office gets its equations, and the electrician's readings are checked.
+// A draft is accepted: its equations are listed, and readings of it are checked.
 ghost use Rattle.acceptance.specs.Agreement.{Agreement, holding};
 ghost use Rattle.acceptance.specs.Entering.{entered};
 

@@ -24,7 +24,7 @@ fn term_at(row: Row, node: usize) -> Option<Term>
 }
 
 // Writes the sum of the flows at a node from the start of `terms` on, and answers how many terms it has.
-// The count goes up by hand, since a chain by `filter_map` found no proof.
+// The count goes up with each term that a row adds.
 pub(crate) fn put_node(rows: &[Row], node: usize, terms: &mut [Term]) -> usize
     requires { length (node_sum rows.now node) ≤ length terms.old }
     ensures count { result ≡ length (node_sum rows.now node) }
