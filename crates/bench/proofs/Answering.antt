@@ -3,16 +3,25 @@ use Rattle.std.proofs.Common.{◌≡◌, ◌≢◌, ℕ, zero, suc, ◌<◌, ◌
 use Rattle.std.proofs.lemmas.Bool.{true≢false}
 use Rattle.std.proofs.lemmas.Bool.Decides.{nat_tests}
 use Rattle.std.proofs.lemmas.List.{length-replicate, ext_get_or}
-use Rattle.quantity.specs.Group.{Group}
+use Rattle.std.specs.Int.{int_wrap, w64}
+use Rattle.quantity.specs.Wholes.{whole, wholes}
+use Rattle.quantity.specs.declared.numbers.Whole.{Whole}
+use Rattle.quantity.specs.Group.{Group, minus}
+use Rattle.quantity.proofs.Groups.{minus_sum, negation_minus, same_from_minus}
 use Rattle.netlist.specs.declared.refusals.Refusal.{Refusal}
 use Rattle.netlist.specs.Netlist.{Netlist}
 use Rattle.network.specs.Balances.{Balances}
 use Rattle.network.specs.Flows.{NodesKeep}
 use Rattle.network.specs.Laws.{LawsHold}
-use Rattle.network.specs.Walks.{Network, Step, forward, backward, Walk, Drawn, Satisfies, Lowest, network_of, read}
+use Rattle.network.specs.Walks.{Network, Step, forward, backward, Walk, Drawn, Satisfies, tail_of, head_of, Lowest, network_of, read}
 use Rattle.network.proofs.Flowing.{sets_keep_as_nodes}
 use Rattle.network.proofs.Walking.{potentials_balance}
 use Rattle.readings.specs.Agreement.{with_earth}
+use Rattle.readings.specs.Readings.{equation_sum}
+use Rattle.readings.proofs.Evaluating.{row_comes}
+use Rattle.equation.specs.Equations.{row_equation}
+use Rattle.netlist.specs.Rows.{across_of}
+use Rattle.netlist.specs.declared.rows.Row.{Row as NetlistRow}
 use Rattle.checking.specs.declared.verdicts.Verdict.{Verdict}
 use Rattle.checking.specs.declared.verdicts.Verdict.TheVariants.{Holds, Law, Node, Row}
 use Rattle.checking.specs.Checked.{Checked, judge_check}
@@ -37,6 +46,10 @@ is_zero (negsuc n) = false
 
 pub nonzero : (z : ℤ) → is_zero z ≡ false → z ≢ pos 0
 nonzero z e h = true≢false (sym (ap is_zero h) ∙ e)
+
+pub nonzero_whole : (z : ℤ) → is_zero (int_wrap w64 z) ≡ false → whole z ≢ wholes.zero
+unfolding int_wrap
+nonzero_whole z e h = true≢false (sym (ap (λ (x : Whole). is_zero x.value) h) ∙ e)
 
 module _ {G : Type 0} (𝓖 : Group G) where
   same_potentials : (b : Netlist) (values rates ps new : List G) (v : Verdict) → length ps ≡ length b.domains → length new ≡ length b.domains → Filled 𝓖 b values rates ps v → Filled 𝓖 b values rates new v → new ≡ ps
@@ -80,3 +93,22 @@ module _ {G : Type 0} (𝓖 : Group G) where
     -- where no row is earthed no walk comes to the earth, and so none from node 0 comes lower
     pub first_is_lowest : Lowest R k 1
     first_is_lowest u s w = above 1 u s (omega arith) w
+
+  -- across a row that holds, one end's potential follows from the other's
+  module _ (n : ℕ) (values rates : List G) (q : ℕ → G) (row : NetlistRow ℕ) (named : across_of row < n) (holds : equation_sum 𝓖 n values rates q (row_equation n row) ≡ 𝓖.zero) where
+    abbrev start : G
+    start = with_earth 𝓖 q (tail_of row)
+
+    abbrev end : G
+    end = with_earth 𝓖 q (head_of row)
+
+    gap : read 𝓖 values (across_of row) ≡ minus 𝓖 start end
+    gap = same_from_minus 𝓖 _ _ (sym (row_comes 𝓖 n values rates q row named) ∙ holds)
+
+    pub end_potential : end ≡ minus 𝓖 start (read 𝓖 values (across_of row))
+    end_potential =
+        sym (minus_sum 𝓖 start end)
+        ∙ ap (𝓖.sum start) (sym (negation_minus 𝓖 start end) ∙ ap 𝓖.negation (sym gap))
+
+    pub start_potential : start ≡ 𝓖.sum end (read 𝓖 values (across_of row))
+    start_potential = sym (minus_sum 𝓖 end start) ∙ ap (𝓖.sum end) (sym gap)

@@ -5,3 +5,6 @@ pub mod Answering
 pub mod Resistance
 pub mod Triangle
 pub mod Loop
+pub mod WholeResistance
+pub mod WholeTriangle
+pub mod WholeLoop

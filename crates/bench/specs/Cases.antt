@@ -1,7 +1,8 @@
 -- A case: something that is known of a sheet, and what it is for it to hold. Assumes nothing.
-use Rattle.std.specs.Prelude.{◌≡◌, List, [], length, replicate, ℕ, ℤ, Ok, Option, Result}
+use Rattle.std.specs.Prelude.{◌≡◌, List, [], length, map, replicate, ℕ, ℤ, Ok, Option, Result}
 use Rattle.quantity.specs.Group.{Group}
 use Rattle.quantity.specs.Integers.{integers}
+use Rattle.quantity.specs.Wholes.{wholes, whole}
 use Rattle.netlist.specs.declared.refusals.Refusal.{Refusal}
 use Rattle.netlist.specs.Netlist.{Netlist, empty, with_nodes}
 use Rattle.netlist.specs.Rules.{answer_node}
@@ -40,5 +41,6 @@ abbrev pub Holds : Case → Type 0
 Holds (printed text answer bytes) = IsPrinted text answer bytes
 Holds (checked text values verdict potentials) =
     (b : Netlist) × ReadsText text empty (Ok tt) b × IsChecked integers b values verdict potentials
+    × IsChecked wholes b (map whole values) verdict (map whole potentials)
 Holds (copied times s size) = size_of (repeated times (single s)) ≡ size
 Holds (node_behind nodes answer) = answer_node (with_nodes empty (replicate nodes 1)) 1 ≡ answer

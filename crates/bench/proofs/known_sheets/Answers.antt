@@ -4,6 +4,9 @@ use Rattle.bench.proofs.Texts.{resistance_drawn, triangle_drawn, loop_drawn, res
 use Rattle.bench.proofs.Resistance.{resistance_holds, resistance_law, nothing_holds}
 use Rattle.bench.proofs.Triangle.{triangle_holds, triangle_row, triangle_node}
 use Rattle.bench.proofs.Loop.{loop_holds, loop_row}
+use Rattle.bench.proofs.WholeResistance as whole_resistance
+use Rattle.bench.proofs.WholeTriangle as whole_triangle
+use Rattle.bench.proofs.WholeLoop as whole_loop
 use Rattle.bench.proofs.known_sheets.Goals as goal
 
 pub returns : goal.returns
@@ -16,21 +19,21 @@ returns c = λ x y z. (
       (
         half_branch_prints,
         (
-          (empty, nothing_read, nothing_holds),
+          (empty, nothing_read, nothing_holds, whole_resistance.nothing_holds),
           (
-            (resistance_drawn, resistance_read, resistance_holds),
+            (resistance_drawn, resistance_read, resistance_holds, whole_resistance.resistance_holds),
             (
-              (resistance_drawn, resistance_read, resistance_law),
+              (resistance_drawn, resistance_read, resistance_law, whole_resistance.resistance_law),
               (
-                (triangle_drawn, triangle_read, triangle_holds),
+                (triangle_drawn, triangle_read, triangle_holds, whole_triangle.triangle_holds),
                 (
-                  (triangle_drawn, triangle_read, triangle_row),
+                  (triangle_drawn, triangle_read, triangle_row, whole_triangle.triangle_row),
                   (
-                    (triangle_drawn, triangle_read, triangle_node x y z),
+                    (triangle_drawn, triangle_read, triangle_node x y z, whole_triangle.triangle_node x y z),
                     (
-                      (loop_drawn, loop_read, loop_holds),
+                      (loop_drawn, loop_read, loop_holds, whole_loop.loop_holds),
                       (
-                        (loop_drawn, loop_read, loop_row),
+                        (loop_drawn, loop_read, loop_row, whole_loop.loop_row),
                         (
                           refl,
                           (
