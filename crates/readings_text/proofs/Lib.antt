@@ -1,0 +1,4 @@
+pub mod Magnitudes
+pub mod Writing
+pub mod Splitting
+pub mod Gathering
