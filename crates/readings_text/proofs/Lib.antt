@@ -2,3 +2,4 @@ pub mod Magnitudes
 pub mod Writing
 pub mod Splitting
 pub mod Gathering
+pub mod Counts

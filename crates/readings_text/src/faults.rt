@@ -1,4 +1,8 @@
 // Why readings are not read to their end.
+ghost use Rattle.std.specs.Prelude.{Some};
+ghost use Rattle.readings_text.specs.Faults.{fault_text};
+
+use std::fmt;
 
 // Lines are counted from 1.
 #[derive(Clone, Copy, PartialEq, Eq, Debug)]
@@ -10,3 +14,27 @@ pub enum ReadingsFault {
     // The text ends with this line, and a variable has no reading.
     TooFew { line: usize },
 }
+
+// As a user is told of it.
+impl fmt::Display for ReadingsFault {
+    ghost output = { λ f. Some (fault_text f) };
+
+    fn fmt<W: fmt::Write>(&self, f: &mut fmt::Formatter<W>) -> fmt::Result {
+        match self {
+            ReadingsFault::Form { line } => write!(
+                f,
+                "readings fault {line}: not a value, a blank and a rate"
+            ),
+            ReadingsFault::TooMany { line } => write!(
+                f,
+                "readings fault {line}: more readings than variables"
+            ),
+            ReadingsFault::TooFew { line } => write!(
+                f,
+                "readings fault {line}: fewer readings than variables"
+            ),
+        }
+    }
+}
+
+impl std::error::Error for ReadingsFault {}

@@ -1,8 +1,8 @@
-use Rattle.std.proofs.Common.{◌≡◌, ℕ, ◌<◌, arith, rules, subst, Err, Some, sym}
+use Rattle.std.proofs.Common.{◌≡◌, ℕ, ◌-◌, ◌<◌, arith, rules, subst, Err, Some, sym}
 use Rattle.readings_text.specs.declared.faults.ReadingsFault.TheVariants.{TooFew}
 use Rattle.readings_text.specs.Lines.{AtFault, Reads}
 use Rattle.readings_text.specs.Readings.{ReadsReadings}
-use Rattle.readings_text.proofs.Gathering.{one_more, at_fault, too_few, enough}
+use Rattle.readings_text.proofs.Gathering.{Kept, one_more, at_fault, too_few, enough}
 use Rattle.readings_text.proofs.reading.read_readings.Goals as goal
 
 pub loop-line-preserved-in-Ok-Some : goal.loop-line-preserved-in-Ok-Some
@@ -10,7 +10,8 @@ loop-line-preserved-in-Ok-Some c =
     let was = c.loop-line.invariant in
     let step = c.in-Some.ensures.steps in
     let told : Reads c.loop-line.wanted c.in-Some.line.bytes.now (Some c.in-Ok-Some.reading) = subst (Reads c.loop-line.wanted c.in-Some.line.bytes.now) c.in-Ok-Some.field-0-is c.in-Ok-Some.ensures in
-    let more = one_more c.args.text.now c.args.variables c.args.values.now.items c.args.rates.now.items c.loop-line.wanted c.loop-line.line-iterator.taken c.next.new.self.taken _ _ _ c.in-Ok-Some.reading _ _ _ _ (was.0, was.1, was.2, was.4) step.listed step.count told.0 told.1 (search rules) (search rules) in
+    let more : Kept c.args.text.now c.args.variables c.args.values.now.items c.args.rates.now.items (c.loop-line.wanted - 1) c.next.new.self.taken c.next.new.self.rest.now c.push.new.self.items c.push-in-Ok-Some.new.self.items =
+    one_more c.args.text.now c.args.variables c.args.values.now.items c.args.rates.now.items c.loop-line.wanted c.loop-line.line-iterator.taken c.next.new.self.taken _ _ _ c.in-Ok-Some.reading _ _ _ _ (was.0, was.1, was.2, was.4) step.listed step.count told.0 told.1 (search rules) (search rules) in
     (more.0, more.1, more.2, search rules, more.3)
 
 pub returns-in-Err : goal.returns-in-Err
