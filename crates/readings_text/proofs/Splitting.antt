@@ -1,6 +1,6 @@
 -- A line of readings is split at its first blank. Assumes nothing.
 use Rattle.std.proofs.Common.{◌≡◌, ℕ, zero, suc, ◌+◌, ◌-◌, ◌<◌, ◌≤◌, [], ◌∷◌, ◌++◌, length, take, drop, get_or, refl, sym, ap, ◌∙◌, add-one, subst, ⊎_elim, arith}
-use Rattle.std.proofs.lemmas.List.{take_rest, drop_more, length-append}
+use Rattle.std.proofs.lemmas.List.{take_rest}
 use Rattle.quantity.specs.declared.numbers.Whole.{Whole}
 use Rattle.text.specs.Grammar.{Bytes}
 use Rattle.readings_text.specs.declared.lines.Reading.{Reading}

@@ -1,8 +1,8 @@
 -- Which texts write numbers. Assumes nothing.
-use Rattle.std.proofs.Common.{◌≡◌, ℕ, ◌∷◌, [], ◌⊎◌, inl, inr, ⊎_elim, refl, sym, None, Some, Option, MatchOption, subst, ◌∙◌, arith, get_or, length, take, drop, ◌≤◌, ◌<◌, ◌-◌, ap}
+use Rattle.std.proofs.Common.{◌≡◌, ℕ, ◌∷◌, [], inl, inr, ⊎_elim, sym, None, Some, Option, MatchOption, subst, ◌∙◌, arith, get_or, length, take, drop, ◌≤◌, ◌-◌, ap}
 use Rattle.std.proofs.lemmas.List.{drop_more, take_rest}
 use Rattle.quantity.specs.declared.numbers.Whole.{Whole}
-use Rattle.text.specs.Grammar.{Bytes, Digit}
+use Rattle.text.specs.Grammar.{Bytes}
 use Rattle.readings_text.specs.Numbers.{Number, Negative, Positive, Writes}
 
 head_same : {a b : ℕ} {x y : Bytes} → ◌≡◌ {A = Bytes} (a ∷ x) (b ∷ y) → a ≡ b

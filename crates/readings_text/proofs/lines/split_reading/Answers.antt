@@ -1,7 +1,7 @@
-use Rattle.std.proofs.Common.{◌≡◌, ℕ, ◌+◌, ◌<◌, ◌≤◌, length, MatchOption, None, arith, rules}
+use Rattle.std.proofs.Common.{rules}
 use Rattle.readings_text.specs.declared.lines.Reading.{Reading}
 use Rattle.readings_text.specs.Lines.{WritesReading}
-use Rattle.readings_text.proofs.Splitting.{First, Halves, halves}
+use Rattle.readings_text.proofs.Splitting.{Halves, halves}
 use Rattle.readings_text.proofs.lines.split_reading.Goals as goal
 
 pub returns-then-at-line : goal.returns-then-at-line

@@ -1,4 +1,4 @@
-use Rattle.std.proofs.Common.{◌≡◌, ℕ, ◌∷◌, List, drop, length, take, arith, rules}
+use Rattle.std.proofs.Common.{rules}
 use Rattle.readings_text.proofs.Writing.{with_minus, with_none, first_rest, no_first}
 use Rattle.readings_text.proofs.numbers.number.Goals as goal
 use Rattle.readings_text.proofs.numbers.number.Goals.{in_default-via-then-text-lt1, in_default-via-else-text-lt1+in_default-1}

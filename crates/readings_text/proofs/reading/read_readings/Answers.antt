@@ -1,4 +1,4 @@
-use Rattle.std.proofs.Common.{◌≡◌, ℕ, ◌-◌, ◌<◌, arith, rules, subst, Err, Some, sym}
+use Rattle.std.proofs.Common.{ℕ, ◌-◌, rules, subst, Err, Some, sym}
 use Rattle.readings_text.specs.declared.faults.ReadingsFault.TheVariants.{TooFew}
 use Rattle.readings_text.specs.Lines.{AtFault, Reads}
 use Rattle.readings_text.specs.Readings.{ReadsReadings}

@@ -1,5 +1,4 @@
 use Rattle.std.proofs.Common.{◌≡◌, List, ◌++◌, map}
-use Rattle.quantity.specs.declared.numbers.Whole.{Whole}
 use Rattle.text.specs.Newlines.{lines_of}
 use Rattle.readings_text.specs.declared.lines.Reading.{Reading}
 use Rattle.readings_text.specs.Readings.{Answer, Gives}
