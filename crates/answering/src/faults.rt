@@ -1,0 +1,15 @@
+// Why a sheet text and readings of it are not checked.
+
+use netlist::refusals::Refusal;
+use readings_text::ReadingsFault;
+use sheet_reader::TextFault;
+
+#[derive(Clone, Copy, PartialEq, Eq, Debug)]
+pub enum AnswerFault {
+    // The sheet text is at fault. Its readings are not read then.
+    Sheet { fault: TextFault },
+    // The readings are at fault.
+    Readings { fault: ReadingsFault },
+    // The check is refused.
+    Check { why: Refusal },
+}

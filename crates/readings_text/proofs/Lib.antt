@@ -1,0 +1,5 @@
+pub mod Magnitudes
+pub mod Writing
+pub mod Splitting
+pub mod Gathering
+pub mod Counts

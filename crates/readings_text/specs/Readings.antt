@@ -1,0 +1,28 @@
+-- What reading a text of readings comes to. Assumes nothing.
+use Rattle.std.specs.Prelude.{◌≡◌, ◌≤◌, ℕ, ◌+◌, ◌-◌, cond, ◌==◌, ◌⊎◌, List, [], ◌∷◌, ◌++◌, map, Result, Ok, Err, IsErrAnd}
+use Rattle.quantity.specs.declared.numbers.Whole.{Whole}
+use Rattle.text.specs.Grammar.{Bytes}
+use Rattle.text.specs.Newlines.{lines_of}
+use Rattle.readings_text.specs.declared.faults.ReadingsFault.{ReadingsFault}
+use Rattle.readings_text.specs.declared.faults.ReadingsFault.TheVariants.{TooFew}
+use Rattle.readings_text.specs.declared.lines.Reading.{Reading}
+use Rattle.readings_text.specs.Lines.{Silent, WritesReading, AtFault}
+
+abbrev pub Answer : Type 0
+Answer = Result (Unit {0}) ReadingsFault
+
+-- The lines read vs in turn, up to the first line at fault. n lines stand before these, and so many readings are wanted.
+abbrev pub Gives : ℕ → ℕ → List Bytes → Answer → List Reading → Type 0
+Gives wanted n [] r vs = (vs ≡ []) × (r ≡ cond (wanted == 0) (Ok tt) (Err (TooFew n)))
+Gives wanted n (line ∷ lines) r vs =
+    (Silent line × Gives wanted (n + 1) lines r vs)
+    ⊎ ((v : Reading) × (ws : List Reading) × WritesReading line v × (1 ≤ wanted) × (vs ≡ v ∷ ws) × Gives (wanted - 1) (n + 1) lines r ws)
+    ⊎ (IsErrAnd r (AtFault wanted (n + 1) line) × (vs ≡ []))
+
+-- the text reads these, whose values and rates stand behind the old ones
+abbrev pub ReadsReadings : Bytes → ℕ → Answer → List Whole → List Whole → List Whole → List Whole → Type 0
+ReadsReadings text variables r values rates values' rates' =
+    (vs : List Reading)
+    × Gives variables 0 (lines_of text) r vs
+    × (values' ≡ values ++ map (λ (v : Reading). v.value) vs)
+    × (rates' ≡ rates ++ map (λ (v : Reading). v.rate) vs)

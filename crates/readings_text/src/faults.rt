@@ -1,0 +1,40 @@
+// Why readings are not read to their end.
+ghost use Rattle.std.specs.Prelude.{Some};
+ghost use Rattle.readings_text.specs.Faults.{fault_text};
+
+use std::fmt;
+
+// Lines are counted from 1.
+#[derive(Clone, Copy, PartialEq, Eq, Debug)]
+pub enum ReadingsFault {
+    // The line is no reading, no comment and not empty.
+    Form { line: usize },
+    // The line is a reading, and every variable has one already.
+    TooMany { line: usize },
+    // The text ends with this line, and a variable has no reading.
+    TooFew { line: usize },
+}
+
+// As a user is told of it.
+impl fmt::Display for ReadingsFault {
+    ghost output = { λ f. Some (fault_text f) };
+
+    fn fmt<W: fmt::Write>(&self, f: &mut fmt::Formatter<W>) -> fmt::Result {
+        match self {
+            ReadingsFault::Form { line } => write!(
+                f,
+                "readings fault {line}: not a value, a blank and a rate"
+            ),
+            ReadingsFault::TooMany { line } => write!(
+                f,
+                "readings fault {line}: more readings than variables"
+            ),
+            ReadingsFault::TooFew { line } => write!(
+                f,
+                "readings fault {line}: fewer readings than variables"
+            ),
+        }
+    }
+}
+
+impl std::error::Error for ReadingsFault {}
