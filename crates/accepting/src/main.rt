@@ -31,10 +31,6 @@ fn run(rt: &HostRuntime, sheet: &str, readings: &str) -> Result<ExitCode> {
             eprintln!(rt; "{fault}")?;
             ExitCode::FAILURE
         }
-        Err(AnswerFault::Check { why }) => {
-            eprintln!(rt; "{why}")?;
-            ExitCode::FAILURE
-        }
     };
     rt.stdout().write_all(printed.as_slice())?;
     Ok(status)

@@ -1,3 +1,4 @@
 pub mod Verdicts
 pub mod Potentials
 pub mod Answers
+pub mod Answering

@@ -1,4 +1,12 @@
 // A sheet text and readings of its sheet are read, checked and printed.
+ghost use Rattle.std.specs.Prelude.{◌≡◌, ◌++◌, IfOk, length};
+ghost use Rattle.quantity.specs.declared.numbers.Whole.{Whole};
+ghost use Rattle.quantity.specs.Wholes.{wholes};
+ghost use Rattle.checking.specs.Potentials.{Filled};
+ghost use Rattle.checking.specs.Verdicts.{VerdictIs};
+ghost use Rattle.answering.specs.Answering.{Answered};
+ghost use Rattle.answering.specs.Answers.{accepted_text};
+
 use crate::accepted::print_accepted;
 use crate::faults::AnswerFault;
 use acceptance::accept;
@@ -18,9 +26,14 @@ fn print_draft(
     draft: Draft,
     values: &[Whole],
     rates: &[Whole],
+    potentials: &mut [Whole],
     out: &mut Vec<u8>,
-) -> Result<Result<Verdict, AnswerFault>, AllocError> {
-    let mut potentials = vec![in heap; Whole { value: 0 }; draft.counts().nodes]?;
+) -> Result<Verdict, AllocError>
+    requires values { length values.now ≡ draft.variables }
+    requires rates { length rates.now ≡ draft.variables }
+    requires potentials { length potentials.old ≡ length draft.domains }
+    ensures { IfOk result (λ verdict. VerdictIs wholes draft values.now rates.now verdict × Filled wholes draft values.now rates.now potentials.new verdict × (out.new.items ≡ out.old.items ++ accepted_text draft verdict potentials.new)) }
+{
     let mut workspace = Workspace::new(heap)?;
     let accepted = accept::<Whole, Single>(
         draft,
@@ -29,16 +42,12 @@ fn print_draft(
         rates,
         &mut [],
         &mut [],
-        potentials.as_mut_slice(),
+        potentials,
         &mut workspace,
     );
-    match accepted.checked {
-        Ok(verdict) => {
-            print_accepted(heap, &accepted.sheet, verdict, potentials.as_slice(), out)?;
-            Ok(Ok(verdict))
-        }
-        Err(why) => Ok(Err(AnswerFault::Check { why })),
-    }
+    let verdict = accepted.checked.unwrap();
+    print_accepted(heap, &accepted.sheet, verdict, potentials, out)?;
+    Ok(verdict)
 }
 
 // Reads both texts, and prints the equations, the verdict and the potentials. Where a text is at fault
@@ -48,7 +57,9 @@ pub fn answer(
     sheet_text: &[u8],
     readings_text: &[u8],
     out: &mut Vec<u8>,
-) -> Result<Result<Verdict, AnswerFault>, AllocError> {
+) -> Result<Result<Verdict, AnswerFault>, AllocError>
+    ensures { IfOk result (λ r. Answered sheet_text.now readings_text.now r out.old.items out.new.items) }
+{
     let mut draft = Draft::new(heap)?;
     if let Err(fault) = read(sheet_text, &mut draft) {
         return Ok(Err(AnswerFault::Sheet { fault }));
@@ -59,5 +70,14 @@ pub fn answer(
     if let Err(fault) = read_readings(readings_text, wanted, &mut values, &mut rates)? {
         return Ok(Err(AnswerFault::Readings { fault }));
     }
-    print_draft(heap, draft, values.as_slice(), rates.as_slice(), out)
+    let mut potentials = vec![in heap; Whole { value: 0 }; draft.counts().nodes]?;
+    let verdict = print_draft(
+        heap,
+        draft,
+        values.as_slice(),
+        rates.as_slice(),
+        potentials.as_mut_slice(),
+        out,
+    )?;
+    Ok(Ok(verdict))
 }

@@ -1,6 +1,5 @@
 // Why a sheet text and readings of it are not checked.
 
-use netlist::refusals::Refusal;
 use readings_text::ReadingsFault;
 use sheet_reader::TextFault;
 
@@ -10,6 +9,4 @@ pub enum AnswerFault {
     Sheet { fault: TextFault },
     // The readings are at fault.
     Readings { fault: ReadingsFault },
-    // The check is refused.
-    Check { why: Refusal },
 }

@@ -1,0 +1,40 @@
+use Rattle.std.proofs.Common.{◌≡◌, ℕ, length, List, [], sym, subst, ap, ◌∙◌, Ok}
+use Rattle.quantity.specs.declared.numbers.Whole.{Whole}
+use Rattle.readings_text.specs.Readings.{Answer, ReadsReadings}
+use Rattle.answering.proofs.Fitting.{readings_fit}
+use Rattle.answering.proofs.answers.answer.Goals as goal
+
+pub print_draft-requires-clause-values : goal.print_draft-requires-clause-values
+print_draft-requires-clause-values c =
+    let read : ReadsReadings c.args.readings_text.now c.read.new.draft.variables (Ok tt) [] [] c.read_readings.new.values.items c.read_readings.new.rates.items =
+    rw (c.new-values.ensures.items, c.new-rates.ensures.items, ap (λ n. n.variables) c.counts-wanted.ensures.value, c.in_default-2.is) at c.in_ok-fault.ensures in
+    ap (λ (xs : List Whole). length xs) c.as_slice.ensures.value ∙ (readings_fit c.args.readings_text.now c.read.new.draft.variables c.read_readings.new.values.items c.read_readings.new.rates.items read).0
+
+pub print_draft-requires-clause-rates : goal.print_draft-requires-clause-rates
+print_draft-requires-clause-rates c =
+    let read : ReadsReadings c.args.readings_text.now c.read.new.draft.variables (Ok tt) [] [] c.read_readings.new.values.items c.read_readings.new.rates.items =
+    rw (c.new-values.ensures.items, c.new-rates.ensures.items, ap (λ n. n.variables) c.counts-wanted.ensures.value, c.in_default-2.is) at c.in_ok-fault.ensures in
+    ap (λ (xs : List Whole). length xs) c.as_slice-2.ensures.value ∙ (readings_fit c.args.readings_text.now c.read.new.draft.variables c.read_readings.new.values.items c.read_readings.new.rates.items read).1
+
+pub print_draft-requires-clause-potentials : goal.print_draft-requires-clause-potentials
+print_draft-requires-clause-potentials c = c.as_mut_slice.ensures.len ∙ c.in_ok-potentials.ensures.len ∙ ap (λ n. n.nodes) c.counts.ensures.value
+
+pub returns : goal.returns
+returns c =
+    let read : ReadsReadings c.args.readings_text.now c.read.new.draft.variables (Ok tt) [] [] c.read_readings.new.values.items c.read_readings.new.rates.items =
+    rw (c.new-values.ensures.items, c.new-rates.ensures.items, ap (λ n. n.variables) c.counts-wanted.ensures.value, c.in_default-2.is) at c.in_ok-fault.ensures in
+    let told = c.in_ok-verdict.ensures in
+    let is = rw (c.as_slice.ensures.value, c.as_slice-2.ensures.value) at told.0 in
+    let filled = rw (c.as_slice.ensures.value, c.as_slice-2.ensures.value) at told.1 in (
+      c.read.new.draft,
+      c.print_draft.new.potentials,
+      record {
+        values = c.read_readings.new.values.items;
+        rates = c.read_readings.new.rates.items;
+        drawn = rw c.in_ok-draft.ensures at c.in_default.ensures.reads;
+        read = read;
+        is = is;
+        filled = filled;
+      },
+      told.2,
+    )
