@@ -1,6 +1,6 @@
-// What is listed and what the check says, of readings of the crane.
+//! What is listed and what the check says, of readings of the crane.
 use super::crane::{LADDER, RUNG, calls, calls_again, law};
-use acceptance::{Request, accept, accept_both};
+use agreement::{Request, accept, accept_both};
 use checking::Verdict;
 use equation::listing::Listing;
 use netlist::refusals::Refusal;

@@ -1,5 +1,5 @@
-// Reads a sheet text and readings of its sheet from two files, and prints the equations, the verdict and the
-// potentials, or what is at fault.
+//! Reads a sheet text and readings of its sheet from two files, and prints the equations, the verdict and the
+//! potentials, or what is at fault.
 #![tactic(auto)]
 
 use answering::{AnswerFault, answer};

@@ -1,4 +1,4 @@
--- The potentials that are printed, and those that are left. Assumes nothing.
+-- The potentials that are printed, and those that are left.
 use Rattle.std.proofs.Common.{◌≡◌, ℕ, ◌+◌, ◌<◌, ◌≤◌, List, ◌++◌, length, drop, get_or, sym, ap, ◌∙◌, append_assoc, append-nil}
 use Rattle.std.proofs.lemmas.List.{drop_more, drop_all}
 use Rattle.quantity.specs.declared.numbers.Whole.{Whole}

@@ -1,4 +1,4 @@
--- What is answered to a sheet text and to readings of its sheet, and what is printed then. Assumes nothing.
+-- What is answered to a sheet text and to readings of its sheet, and what is printed then.
 use Rattle.std.specs.Prelude.{◌≡◌, List, [], ◌++◌, Ok, Err, Result}
 use Rattle.quantity.specs.declared.numbers.Whole.{Whole}
 use Rattle.quantity.specs.Wholes.{wholes}

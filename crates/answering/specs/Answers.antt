@@ -1,4 +1,4 @@
--- What is printed of a sheet that was accepted with readings. Assumes nothing.
+-- What is printed of a sheet that was accepted with readings.
 use Rattle.std.specs.Prelude.{List, [], ◌++◌}
 use Rattle.quantity.specs.declared.numbers.Whole.{Whole}
 use Rattle.netlist.specs.Netlist.{Netlist}

@@ -1,4 +1,4 @@
--- The lines of the potentials. Assumes nothing.
+-- The lines of the potentials.
 use Rattle.std.specs.Prelude.{ℕ, ◌+◌, List, [], ◌∷◌, ◌++◌, codes, decimal}
 use Rattle.std.specs.Fmt.{signed_decimal}
 use Rattle.quantity.specs.declared.numbers.Whole.{Whole}

@@ -1,4 +1,4 @@
--- The line of a verdict. Assumes nothing.
+-- The line of a verdict.
 use Rattle.std.specs.Prelude.{◌++◌, codes, decimal}
 use Rattle.text.specs.Grammar.{Bytes}
 use Rattle.checking.specs.declared.verdicts.Verdict.{Verdict}

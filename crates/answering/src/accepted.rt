@@ -1,4 +1,4 @@
-// What is printed of a sheet that was accepted with readings.
+//! What is printed of a sheet that was accepted with readings.
 ghost use Rattle.std.specs.Prelude.{◌≡◌, ◌++◌, OnOk};
 ghost use Rattle.answering.specs.Answers.{accepted_text};
 
@@ -10,7 +10,7 @@ use quantity::Whole;
 use sheet::Sheet;
 use std::alloc::{AllocError, Global};
 
-// Prints the equations of the sheet, the verdict, and where the readings agree the potentials.
+/// Prints the equations of the sheet, the verdict, and where the readings agree the potentials.
 pub fn print_accepted(
     heap: Global,
     sheet: &Sheet,

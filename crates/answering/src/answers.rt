@@ -1,4 +1,4 @@
-// A sheet text and readings of its sheet are read, checked and printed.
+//! A sheet text and readings of its sheet are read, checked and printed.
 ghost use Rattle.std.specs.Prelude.{◌≡◌, ◌++◌, IfOk, length};
 ghost use Rattle.quantity.specs.declared.numbers.Whole.{Whole};
 ghost use Rattle.quantity.specs.Wholes.{wholes};
@@ -9,7 +9,7 @@ ghost use Rattle.answering.specs.Answers.{accepted_text};
 
 use crate::accepted::print_accepted;
 use crate::faults::AnswerFault;
-use acceptance::accept;
+use agreement::accept;
 use checking::Verdict;
 use parts::single::Single;
 use quantity::Whole;
@@ -50,8 +50,8 @@ fn print_draft(
     Ok(verdict)
 }
 
-// Reads both texts, and prints the equations, the verdict and the potentials. Where a text is at fault
-// nothing is printed. It fails for want of memory alone.
+/// Reads both texts, and prints the equations, the verdict and the potentials. Where a text is at fault
+/// nothing is printed. It fails for want of memory alone.
 pub fn answer(
     heap: Global,
     sheet_text: &[u8],

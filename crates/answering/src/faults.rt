@@ -1,12 +1,12 @@
-// Why a sheet text and readings of it are not checked.
+//! Why a sheet text and readings of it are not checked.
 
 use readings_text::ReadingsFault;
 use sheet_reader::TextFault;
 
 #[derive(Clone, Copy, PartialEq, Eq, Debug)]
 pub enum AnswerFault {
-    // The sheet text is at fault. Its readings are not read then.
+    /// The sheet text is at fault. Its readings are not read then.
     Sheet { fault: TextFault },
-    // The readings are at fault.
+    /// The readings are at fault.
     Readings { fault: ReadingsFault },
 }

@@ -1,4 +1,4 @@
-// What a program answers to a sheet text and to readings of the sheet.
+//! What a program answers to a sheet text and to readings of the sheet.
 #![tactic(auto)]
 
 mod accepted;

@@ -1,4 +1,4 @@
-// The potentials of the nodes are printed, a line each.
+//! The potentials of the nodes are printed, a line each.
 ghost use Rattle.std.specs.Prelude.{◌≡◌, ◌++◌, OnOk};
 ghost use Rattle.answering.specs.Potentials.{potential_text, potentials_text};
 
@@ -18,7 +18,7 @@ fn print_potential(
     out.extend_from_slice(line.as_bytes())
 }
 
-// Prints the line of each node behind what has been printed.
+/// Prints the line of each node behind what has been printed.
 pub fn print_potentials(
     heap: Global,
     potentials: &[Whole],

@@ -1,4 +1,4 @@
-// A verdict is printed, as a line.
+//! A verdict is printed, as a line.
 ghost use Rattle.std.specs.Prelude.{◌≡◌, ◌++◌, IfOk, OnOk};
 ghost use Rattle.answering.specs.Verdicts.{verdict_text};
 
@@ -16,7 +16,7 @@ fn spell_verdict(heap: Global, verdict: Verdict) -> Result<String, AllocError>
     }
 }
 
-// Prints the line of the verdict behind what has been printed.
+/// Prints the line of the verdict behind what has been printed.
 pub fn print_verdict(heap: Global, verdict: Verdict, out: &mut Vec<u8>) -> Result<(), AllocError>
     ensures { OnOk result (out.new.items ≡ out.old.items ++ verdict_text verdict) }
 {

@@ -1,4 +1,4 @@
--- What an assembly means: void, or a plan; and what each query tells of it. Assumes nothing.
+-- What an assembly means: void, or a plan; and what each query tells of it.
 use Rattle.std.specs.Prelude.{◌≡◌, ℕ, ◌≤◌, Bool, true, false, ◌&&◌, List, [], ◌++◌, map, length, Some, None, Option, nat_le, slice_index_or}
 use Rattle.netlist.specs.declared.domains.Domain.{Domain}
 use Rattle.netlist.specs.Sound.{every, is_term_count}

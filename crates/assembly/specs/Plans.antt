@@ -1,4 +1,4 @@
--- The rows and terms of a plan: those of a netlist, in the plan's own numbers. Assumes nothing.
+-- The rows and terms of a plan: those of a netlist, in the plan's own numbers.
 use Rattle.std.specs.Prelude.{ℕ}
 use Rattle.netlist.specs.declared.rows.Row.{Row}
 use Rattle.netlist.specs.declared.terms.RawTerm.{RawTerm}

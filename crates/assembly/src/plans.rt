@@ -1,5 +1,5 @@
-// What a plan is made of, in the plan's own numbers. Its nodes are the ends, two of them, and then the
-// inner nodes: node 0 is the first end, node 1 the second, node 2 + j inner node j.
+//! What a plan is made of, in the plan's own numbers. Its nodes are the ends, two of them, and then the
+//! inner nodes: node 0 is the first end, node 1 the second, node 2 + j inner node j.
 
 ghost use Rattle.std.specs.Prelude.{◌≡◌};
 ghost use Rattle.assembly.specs.Meaning.{is_small};
@@ -7,13 +7,13 @@ ghost use Rattle.assembly.specs.Meaning.{is_small};
 use netlist::rows::Row;
 use netlist::terms::RawTerm;
 
-// A row may name a node or a variable that the plan lacks: that is judged where the plan is placed.
+/// A row may name a node or a variable that the plan lacks: that is judged where the plan is placed.
 pub type PlanRow = Row<u32>;
 
-// A term as it is written, before it is judged.
+/// A term as it is written, before it is judged.
 pub type PlanTerm = RawTerm<u32>;
 
-// How many ends, inner nodes, variables, rows and laws a plan has.
+/// How many ends, inner nodes, variables, rows and laws a plan has.
 #[derive(Clone, Copy, PartialEq, Eq, Debug)]
 pub struct Size {
     pub ends: usize,
@@ -24,7 +24,7 @@ pub struct Size {
 }
 
 impl Size {
-    // A plan has at most so many inner nodes, variables, rows and laws, of each.
+    /// A plan has at most so many inner nodes, variables, rows and laws, of each.
     pub const MOST: usize = 6000;
 
     pub fn is_small(self) -> bool

@@ -1,4 +1,4 @@
--- Netlists that differ in the numbers of their nodes alone are alike. Assumes nothing.
+-- Netlists that differ in the numbers of their nodes alone are alike.
 use Rattle.std.proofs.Common.{◌≡◌, ℕ, ◌<◌, true, List, [], ◌∷◌, map, length, sym, refl, ◌∙◌, subst}
 use Rattle.std.specs.List.{AllByRecursion}
 use Rattle.std.specs.List.Sorted.{IsPermutation}

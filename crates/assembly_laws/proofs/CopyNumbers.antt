@@ -1,4 +1,4 @@
--- The nodes and variables of n + 1 copies, and of n copies in series with one more. Assumes nothing.
+-- The nodes and variables of n + 1 copies, and of n copies in series with one more.
 use Rattle.std.proofs.Common.{◌≡◌, ℕ, zero, suc, ◌+◌, ◌-◌, ◌*◌, ◌<◌, ◌≤◌, sym, refl, ap, ◌∙◌, ⊎_elim, arith}
 use Rattle.std.proofs.lemmas.Bool.{cases_lt}
 use Rattle.assembly.specs.declared.plans.Size.{Size}

@@ -1,4 +1,4 @@
--- Three parts in series are void either way, or neither way. Assumes nothing.
+-- Three parts in series are void either way, or neither way.
 use Rattle.std.proofs.Common.{◌≡◌, ℕ, ◌+◌, Bool, true, false, cond, ◌&&◌, [], ◌∷◌, ◌++◌, map, length, take, drop, sym, refl, ap, ◌∙◌, subst, arith}
 use Rattle.std.proofs.lemmas.Bool.{and_parts, and_right, both_ways}
 use Rattle.std.proofs.lemmas.List.{length-append, length-map}

@@ -1,4 +1,4 @@
--- What it takes that a plan is placed between two nodes. Assumes nothing.
+-- What it takes that a plan is placed between two nodes.
 use Rattle.std.proofs.Common.{◌≡◌, ℕ, ◌+◌, ◌<◌, ◌≤◌, false, not, eqb, List, [], ◌∷◌, ◌++◌, map, length, get_or, None, sym, refl, ap, ◌∙◌, arith}
 use Rattle.std.specs.Option.{option_or}
 use Rattle.std.proofs.lemmas.Bool.{leb-false, ltb-false, lt-leb, le-ltb, eqb-true, eq-eqb, not-false, not_from_true}

@@ -1,4 +1,4 @@
--- Laws that pass their tables, also where their variables have other numbers. Assumes nothing.
+-- Laws that pass their tables, also where their variables have other numbers.
 use Rattle.std.proofs.Common.{◌≡◌, ℕ, ◌+◌, ◌<◌, List, [], ◌∷◌, map, length, None, Option, refl, ap, ◌∙◌}
 use Rattle.std.specs.List.{AllByRecursion}
 use Rattle.std.specs.Option.{option_map, option_or}

@@ -1,4 +1,4 @@
--- n + 1 copies of a part, and n copies in series with one more. Assumes nothing.
+-- n + 1 copies of a part, and n copies in series with one more.
 use Rattle.std.proofs.Common.{◌≡◌, ℕ, zero, suc, ◌+◌, ◌-◌, ◌*◌, ◌<◌, ◌≤◌, Bool, true, false, cond, ◌&&◌, List, [], ◌∷◌, ◌++◌, map, length, sym, refl, ap, ◌∙◌, subst, arith}
 use Rattle.std.specs.List.{range_with_len, flat_map, slice_get}
 use Rattle.std.proofs.lemmas.Bool.{and_parts, and_from, le-leb}

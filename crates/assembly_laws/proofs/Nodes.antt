@@ -1,5 +1,5 @@
 -- The nodes of two parts between p and q: in a series that is placed, and where they are placed one by one on
--- a joint that is drawn before them. Assumes nothing.
+-- a joint that is drawn before them.
 use Rattle.std.proofs.Common.{Option, unwrap_or, ◌≡◌, ℕ, suc, ◌+◌, ◌-◌, ◌<◌, ◌≤◌, List, [], ◌∷◌, ◌++◌, length, get_or, sym, ap, ◌∙◌, arith}
 use Rattle.std.proofs.lemmas.Bool.{cond-false, le-ltb}
 use Rattle.std.proofs.lemmas.List.{append_assoc, append-nil}

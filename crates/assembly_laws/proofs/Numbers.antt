@@ -1,4 +1,4 @@
--- The layer's number of each node and each variable of a part, case by case. Assumes nothing.
+-- The layer's number of each node and each variable of a part, case by case.
 use Rattle.std.proofs.Common.{◌-◌, ap, ◌∙◌, ◌≡◌, ℕ, zero, suc, ◌+◌, ◌<◌, ◌≤◌, sym, subst, ⊎_elim, arith}
 use Rattle.std.proofs.lemmas.Bool.{cases_lt}
 use Rattle.std.proofs.lemmas.List.{get_or_past}

@@ -1,4 +1,4 @@
--- A series fits exactly where its parts fit one by one, and then both draw the same. Assumes nothing.
+-- A series fits exactly where its parts fit one by one, and then both draw the same.
 use Rattle.std.proofs.Common.{◌≡◌, ℕ, ◌<◌, ◌↔◌, Bool, true, false, cond, ◌&&◌, List, [], ◌∷◌, length, None, sym, refl, ap, ◌∙◌, subst, arith}
 use Rattle.std.proofs.lemmas.Bool.{and_parts, and_from, eqb-true, eq-eqb}
 use Rattle.netlist.specs.declared.domains.Domain.{Domain}

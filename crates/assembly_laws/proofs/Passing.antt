@@ -1,4 +1,4 @@
--- Rows that pass their tables in turn, also where their nodes have other numbers. Assumes nothing.
+-- Rows that pass their tables in turn, also where their nodes have other numbers.
 use Rattle.std.proofs.Common.{◌≡◌, ℕ, ◌+◌, ◌<◌, Bool, false, cond, not, eqb, ltb, List, [], ◌∷◌, ◌++◌, map, length, get_or, Some, None, Option, sym, refl, ap, ◌∙◌, subst, arith}
 use Rattle.std.specs.List.{AllByRecursion}
 use Rattle.std.specs.Option.{option_map, option_or}

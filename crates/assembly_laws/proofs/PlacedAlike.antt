@@ -1,4 +1,4 @@
--- Plans that differ in the numbers of their inner nodes alone are placed alike. Assumes nothing.
+-- Plans that differ in the numbers of their inner nodes alone are placed alike.
 use Rattle.std.proofs.Common.{◌≡◌, ℕ, zero, suc, ◌+◌, ◌-◌, ◌<◌, ◌≤◌, List, [], ◌∷◌, ◌++◌, map, length, get_or, None, Option, unwrap_or, sym, refl, ap, ◌∙◌, subst, ⊎_elim, arith}
 use Rattle.std.specs.List.{slice_get}
 use Rattle.std.specs.Option.{option_map}

@@ -1,4 +1,4 @@
--- Rows and laws in other numbers, and what it takes for two renamings to agree on them. Assumes nothing.
+-- Rows and laws in other numbers, and what it takes for two renamings to agree on them.
 use Rattle.std.proofs.Common.{length, ◌+◌, ◌≡◌, ℕ, ◌<◌, List, [], ◌∷◌, ◌++◌, map, refl}
 use Rattle.std.specs.List.{AllByRecursion}
 use Rattle.netlist.specs.declared.rows.Row.{Row}

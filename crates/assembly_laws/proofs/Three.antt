@@ -1,4 +1,4 @@
--- The nodes and variables of three parts in series, taken together in two ways. Assumes nothing.
+-- The nodes and variables of three parts in series, taken together in two ways.
 use Rattle.std.proofs.Common.{◌≡◌, ℕ, ◌+◌, ◌≤◌, sym, ap, ◌∙◌, ⊎_elim, arith}
 use Rattle.std.proofs.lemmas.Bool.{cases_lt}
 use Rattle.assembly.specs.declared.plans.Size.{Size}

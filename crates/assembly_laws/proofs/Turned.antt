@@ -1,4 +1,4 @@
--- One that goes behind those that follow it, or before those that it follows. Assumes nothing.
+-- One that goes behind those that follow it, or before those that it follows.
 use Rattle.std.proofs.Common.{◌≡◌, ℕ, ◌+◌, ◌-◌, ◌<◌, ◌≤◌, ◌∙◌, arith}
 use Rattle.assembly_laws.specs.Swapped.{swapped}
 use Rattle.assembly_laws.proofs.Swapped.{swapped_low, swapped_high, swapped_first, swapped_next, swapped_back}

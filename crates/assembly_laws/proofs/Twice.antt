@@ -1,4 +1,4 @@
--- Two copies of a part are the part in series with itself. Assumes nothing.
+-- Two copies of a part are the part in series with itself.
 use Rattle.std.proofs.Common.{length, ⊎_elim, ◌≡◌, ℕ, ◌+◌, ◌*◌, Bool, true, false, eqb, ◌&&◌, List, [], ◌++◌, Some, None, Option, sym, refl, ◌∙◌, arith}
 use Rattle.std.proofs.lemmas.List.{append-nil, take-append-drop}
 use Rattle.std.proofs.lemmas.Bool.{cases_eq, eq-eqb, ne_eqb}

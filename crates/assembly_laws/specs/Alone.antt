@@ -1,4 +1,4 @@
--- A plan is judged on any netlist as by itself. Assumes nothing.
+-- A plan is judged on any netlist as by itself.
 use Rattle.std.specs.Prelude.{◌≡◌, ℕ, [], ◌∷◌, None}
 use Rattle.std.specs.Option.{option_or}
 use Rattle.netlist.specs.Netlist.{Netlist}

@@ -1,4 +1,4 @@
--- Three parts in series. Assumes nothing.
+-- Three parts in series.
 use Rattle.std.specs.Prelude.{ℕ, ◌+◌}
 use Rattle.assembly.specs.Meaning.{Meaning, Proper}
 use Rattle.series.specs.Series.{series}

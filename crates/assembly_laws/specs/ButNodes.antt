@@ -1,4 +1,4 @@
--- Two netlists, or two plans, that differ in the numbers of their nodes alone. Assumes nothing.
+-- Two netlists, or two plans, that differ in the numbers of their nodes alone.
 use Rattle.std.specs.Prelude.{◌≡◌, ℕ, map, length, slice_index}
 use Rattle.netlist.specs.Netlist.{Netlist}
 use Rattle.netlist.specs.Alike.{Renaming, renamed_row}

@@ -1,4 +1,4 @@
--- One copy more of a part. Assumes nothing.
+-- One copy more of a part.
 use Rattle.std.specs.Prelude.{ℕ, ◌+◌, ◌-◌, ◌*◌, ◌<◌, ◌≤◌}
 use Rattle.assembly.specs.Meaning.{Meaning, Proper}
 use Rattle.series.specs.Series.{series}

@@ -1,4 +1,4 @@
--- A series that is placed, and its parts placed one by one. Assumes nothing.
+-- A series that is placed, and its parts placed one by one.
 use Rattle.std.specs.Prelude.{◌≡◌, ℕ, ◌+◌, ◌<◌, ◌↔◌, [], ◌∷◌, map, length, None, slice_index}
 use Rattle.netlist.specs.Alike.{Alike}
 use Rattle.netlist.specs.Domains.{domain_number}

@@ -1,4 +1,4 @@
--- Where plans that differ in the numbers of their inner nodes alone are placed. Assumes nothing.
+-- Where plans that differ in the numbers of their inner nodes alone are placed.
 use Rattle.std.specs.Prelude.{◌≡◌, ℕ, ◌+◌, ◌-◌, ◌↔◌, cond, [], ◌∷◌, length, None, nat_lt}
 use Rattle.netlist.specs.Alike.{Alike}
 use Rattle.netlist.specs.Netlist.{Netlist}

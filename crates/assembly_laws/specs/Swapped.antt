@@ -1,4 +1,4 @@
--- New numbers where some things change places with those that follow them. Assumes nothing.
+-- New numbers where some things change places with those that follow them.
 use Rattle.std.specs.Prelude.{ℕ, ◌+◌, ◌-◌, cond, ◌||◌, nat_le, nat_lt}
 
 -- Of the numbers from `from` on, the first m go behind the next n. Below and above these nothing changes.

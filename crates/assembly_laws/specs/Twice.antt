@@ -1,4 +1,4 @@
--- Two copies of a part. Assumes nothing.
+-- Two copies of a part.
 use Rattle.std.specs.Prelude.{◌≡◌}
 use Rattle.assembly.specs.Meaning.{Meaning, Proper}
 use Rattle.series.specs.Series.{series}

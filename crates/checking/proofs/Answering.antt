@@ -1,4 +1,4 @@
--- What a check answers once the laws hold and nothing flows out of any node. Assumes nothing.
+-- What a check answers once the laws hold and nothing flows out of any node.
 use Rattle.std.proofs.Common.{◌≡◌, ℕ, ◌+◌, List, length, Result, Ok, ◌∙◌, subst, subst₂}
 use Rattle.quantity.specs.Group.{Group}
 use Rattle.netlist.specs.declared.rows.Row.{Row}
@@ -9,7 +9,7 @@ use Rattle.network.specs.Flows.{NodesKeep}
 use Rattle.network.specs.Laws.{LawsHold}
 use Rattle.network.specs.Walks.{network_of, Solved}
 use Rattle.walk_test.specs.declared.findings.Finding.{Finding}
-use Rattle.walk_test.specs.declared.findings.Finding.TheVariants.{Balanced, Unbalanced}
+use Rattle.walk_test.specs.declared.findings.Finding.TheVariants.{WalksClose, SomeWalkFails}
 use Rattle.walk_test.specs.declared.findings.Misfit.{Misfit}
 use Rattle.walk_test.specs.Potentials.{potential_at}
 use Rattle.walk_test.specs.Tested.{Tested}
@@ -28,14 +28,14 @@ module _ {G : Type 0} (𝓖 : Group G) where
   module _ (b : Netlist) (sound : Sound b) (values rates old cleared new : List G) (fit : Ok tt ≡ answer {X = Unit {0}} (judge_check b (length values) (length rates) (length old)) tt) (kept : length cleared ≡ length old)
       (laws : LawsHold 𝓖 b.laws values rates (length b.laws)) (nodes : NodesKeep 𝓖 b.rows values (length b.domains))
       (rows : List (Row ℕ)) (same : rows ≡ b.rows) (found : Result Finding Misfit) (tested : Tested 𝓖 rows (network_of 𝓖 rows values) cleared new found) where
-    pub agree : found ≡ Ok Balanced → Checked 𝓖 b values rates old new (Ok Holds)
+    pub agree : found ≡ Ok WalksClose → Checked 𝓖 b values rates old new (Ok Holds)
     agree is =
-        let t = told rows b.rows values cleared new found Balanced same is tested in
+        let t = told rows b.rows values cleared new found WalksClose same is tested in
         let count = t.1 ∙ kept ∙ one_each b (length values) (length rates) (length old) fit in
         let solves = subst (λ (n : ℕ). Solved 𝓖 (network_of 𝓖 b.rows values) (n + 1) (length b.rows) (potential_at 𝓖 new)) count t.2 in
         (accepted _ fit, t.1 ∙ kept, balances 𝓖 b sound values rates new laws nodes solves, filling 𝓖 b sound values rates new laws nodes solves)
 
-    pub row_fails : (k : ℕ) → found ≡ Ok (Unbalanced k) → Checked 𝓖 b values rates old new (Ok (RowFails k))
+    pub row_fails : (k : ℕ) → found ≡ Ok (SomeWalkFails k) → Checked 𝓖 b values rates old new (Ok (RowFails k))
     row_fails k is =
-        let t = told rows b.rows values cleared new found (Unbalanced k) same is tested in
+        let t = told rows b.rows values cleared new found (SomeWalkFails k) same is tested in
         (accepted _ fit, t.1 ∙ kept, (laws, nodes, t.2.0), t.2.1)

@@ -1,4 +1,4 @@
--- Readings have one verdict. Assumes nothing.
+-- Readings have one verdict.
 use Rattle.std.proofs.Common.{◌≡◌, ℕ, ◌+◌, ◌<◌, ◌≤◌, List, refl, ap, ⊎_elim, arith}
 use Rattle.std.proofs.lemmas.Bool.{cases_order}
 use Rattle.quantity.specs.Group.{Group}
@@ -6,7 +6,7 @@ use Rattle.netlist.specs.declared.rows.Row.{Row}
 use Rattle.netlist.specs.declared.terms.Term.{Term}
 use Rattle.network.specs.Flows.{only, FirstNode}
 use Rattle.network.specs.Laws.{FirstLaw}
-use Rattle.network.specs.Walks.{Network, Balanced, Unbalanced, Refuted}
+use Rattle.network.specs.Walks.{Network, WalksClose, SomeWalkFails, Refuted}
 use Rattle.network.proofs.Reaching.{walk_more}
 use Rattle.checking.specs.Verdicts.{OneVerdict}
 use Rattle.checking.specs.declared.verdicts.Verdict.TheVariants.{Holds, Law, Node, Row as RowFails}
@@ -22,7 +22,7 @@ module _ {G : Type 0} (𝓖 : Group G) where
   same_node : (rows : List (Row ℕ)) (values : List G) (m j k : ℕ) → FirstNode 𝓖 rows values m j → FirstNode 𝓖 rows values m k → j ≡ k
   same_node rows values m j k p q = lowest j k (λ l. p.here (q.before j l)) (λ l. q.here (p.before k l))
 
-  clash : (R : Network G) (k m : ℕ) → k ≤ m → Unbalanced 𝓖 R k → Balanced 𝓖 R m → ⊥
+  clash : (R : Network G) (k m : ℕ) → k ≤ m → SomeWalkFails 𝓖 R k → WalksClose 𝓖 R m → ⊥
   clash R k m l (a, s, walk, uneven) balanced = uneven (balanced a s (walk_more R k m a a s l walk))
 
   same_row : (R : Network G) (m j k : ℕ) → Refuted 𝓖 R m j → Refuted 𝓖 R m k → j ≡ k

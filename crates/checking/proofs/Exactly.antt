@@ -1,4 +1,4 @@
--- What is found of small whole numbers is found of the integers. Assumes nothing.
+-- What is found of small whole numbers is found of the integers.
 use Rattle.std.proofs.Common.{◌≡◌, ℕ, zero, suc, ◌+◌, List, [], ◌∷◌, length, replicate, pos, Result, Ok, Err, sym, refl, ap, ap₂, ◌∙◌, subst, arith}
 use Rattle.std.proofs.lemmas.List.{length-map}
 use Rattle.std.specs.Result.{IfOk}
@@ -8,17 +8,17 @@ use Rattle.quantity.specs.declared.numbers.Whole.{Whole}
 use Rattle.netlist.specs.declared.refusals.Refusal.{Refusal}
 use Rattle.netlist.specs.Netlist.{Netlist}
 use Rattle.netlist.specs.Sound.{Sound}
-use Rattle.network.specs.Balances.{Balances}
+use Rattle.network.specs.ReadingsAgree.{ReadingsAgree}
 use Rattle.network.specs.Flows.{NodesKeep}
 use Rattle.network.specs.Laws.{LawsHold}
 use Rattle.network.specs.Walks.{read, Solved}
 use Rattle.network.proofs.Flowing.{sets_keep_as_nodes}
 use Rattle.readings.proofs.Drawing.{sound_drawn}
 use Rattle.walk_test.specs.Potentials.{potential_at}
-use Rattle.exact.specs.Small.{AreSmall}
-use Rattle.exact.specs.Exact.{values_of, over_integers, Exact}
-use Rattle.exact.proofs.Bounds.{held_as_is}
-use Rattle.exact.proofs.Exactness.{small_is_exact}
+use Rattle.small_readings.specs.Small.{AreSmall}
+use Rattle.small_readings.specs.Exact.{values_of, over_integers, Exact}
+use Rattle.small_readings.proofs.Bounds.{held_as_is}
+use Rattle.small_readings.proofs.Exactness.{small_is_exact}
 use Rattle.checking.specs.declared.verdicts.Verdict.{Verdict}
 use Rattle.checking.specs.declared.verdicts.Verdict.TheVariants.{Holds, Law, Node, Row}
 use Rattle.checking.specs.Checked.{Checked}
@@ -56,10 +56,10 @@ module _ (b : Netlist) (sound : Sound b) (values rates : List Whole) (small_valu
   nodes : (n : ℕ) → NodesKeep wholes b.rows values n → NodesKeep integers b.rows (values_of values) n
   nodes n keep u l = (exact.nodes u).0 (keep u l)
 
-  keeps : Balances wholes b values rates → NodesKeep wholes b.rows values (length b.domains)
+  keeps : ReadingsAgree wholes b values rates → NodesKeep wholes b.rows values (length b.domains)
   keeps balances = (sets_keep_as_nodes wholes b.rows values (length b.domains) (sound_drawn b sound)).0 balances.sets
 
-  filled_integers : (ps : List Whole) → Balances wholes b values rates → Filling wholes b values rates ps → Filling integers b (values_of values) (values_of rates) (values_of ps)
+  filled_integers : (ps : List Whole) → ReadingsAgree wholes b values rates → Filling wholes b values rates ps → Filling integers b (values_of values) (values_of rates) (values_of ps)
   filled_integers ps balances filled =
       let n = length b.domains in
       let over = (exact.solved (length b.rows) (omega arith) (potential_at wholes ps)).0 (solved wholes b sound values rates ps balances.laws (keeps balances) filled) in

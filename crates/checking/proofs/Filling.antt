@@ -1,14 +1,14 @@
--- The filling of a sound netlist is what solves its rows. Assumes nothing.
+-- The filling of a sound netlist is what solves its rows.
 use Rattle.std.proofs.Common.{◌≡◌, ℕ, zero, suc, ◌+◌, ◌<◌, List, length, refl, sym, ap, ◌∙◌, ap₂, subst, add-one, arith}
 use Rattle.quantity.specs.Group.{Group, minus}
 use Rattle.netlist.specs.Netlist.{Netlist}
 use Rattle.netlist.specs.Sound.{Sound}
-use Rattle.network.specs.Balances.{Balances}
+use Rattle.network.specs.ReadingsAgree.{ReadingsAgree}
 use Rattle.network.specs.Flows.{NodesKeep}
 use Rattle.network.specs.Laws.{LawsHold}
 use Rattle.network.specs.Walks.{Network, network_of, read, Satisfies, Lowest, Grounded, Solved}
 use Rattle.network.proofs.Flowing.{sets_keep_as_nodes}
-use Rattle.network.proofs.Walking.{potentials_balance}
+use Rattle.network.proofs.Walking.{potentials_close_walks}
 use Rattle.equation.proofs.Counting.{equations_are}
 use Rattle.readings.specs.Readings.{EquationsHold}
 use Rattle.readings.specs.Agreement.{with_earth}
@@ -41,11 +41,11 @@ module _ {G : Type 0} (𝓖 : Group G) where
         (parts.row_holds j l).0 (holds (length b.laws + (length b.domains + j)) (omega (arith, equations_are b sound)))
 
     module _ (laws : LawsHold 𝓖 b.laws values rates (length b.laws)) (nodes : NodesKeep 𝓖 b.rows values (length b.domains)) where
-      pub balances : Solves (potential_at 𝓖 ps) → Balances 𝓖 b values rates
+      pub balances : Solves (potential_at 𝓖 ps) → ReadingsAgree 𝓖 b values rates
       balances solved = record {
         laws = laws;
         sets = (sets_keep_as_nodes 𝓖 b.rows values (length b.domains) (sound_drawn b sound)).1 nodes;
-        walks = potentials_balance 𝓖 R (length b.rows) (potential_at 𝓖 ps) solved.satisfies;
+        walks = potentials_close_walks 𝓖 R (length b.rows) (potential_at 𝓖 ps) solved.satisfies;
       }
 
       pub filling : Solves (potential_at 𝓖 ps) → Filling 𝓖 b values rates ps

@@ -1,4 +1,4 @@
--- A check that begins has what the walk test asks for. Assumes nothing.
+-- A check that begins has what the walk test asks for.
 use Rattle.std.proofs.Common.{◌≡◌, ℕ, ◌+◌, ◌<◌, false, not, List, length, Some, None, Option, Result, Ok, Err, refl, ◌∙◌, sym, subst₂, arith}
 use Rattle.std.specs.Result.{IsOk}
 use Rattle.std.proofs.lemmas.Bool.{cond-false, le-ltb, true≢false}

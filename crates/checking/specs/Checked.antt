@@ -1,4 +1,4 @@
--- What a check answers, and what it leaves in the buffer of potentials. Assumes nothing.
+-- What a check answers, and what it leaves in the buffer of potentials.
 use Rattle.std.specs.Prelude.{◌≡◌, ℕ, not, ◌||◌, List, [], ◌∷◌, length, Some, None, Option, Result, Ok, Err, ◌==◌}
 use Rattle.quantity.specs.Group.{Group}
 use Rattle.netlist.specs.declared.refusals.Refusal.{Refusal}

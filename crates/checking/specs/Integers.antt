@@ -1,9 +1,9 @@
--- What a verdict on whole numbers says of the unbounded integers. Assumes nothing.
+-- What a verdict on whole numbers says of the unbounded integers.
 use Rattle.std.specs.Prelude.{List}
 use Rattle.quantity.specs.Integers.{integers}
 use Rattle.quantity.specs.declared.numbers.Whole.{Whole}
 use Rattle.netlist.specs.Netlist.{Netlist}
-use Rattle.exact.specs.Exact.{values_of}
+use Rattle.small_readings.specs.Exact.{values_of}
 use Rattle.checking.specs.declared.verdicts.Verdict.{Verdict}
 use Rattle.checking.specs.Potentials.{Filled}
 use Rattle.checking.specs.Verdicts.{VerdictIs}

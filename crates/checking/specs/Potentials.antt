@@ -1,4 +1,4 @@
--- The potentials that go with a verdict. Assumes nothing.
+-- The potentials that go with a verdict.
 use Rattle.std.specs.Prelude.{◌≡◌, ℕ, ◌+◌, ◌<◌, List, length, replicate}
 use Rattle.quantity.specs.Group.{Group}
 use Rattle.netlist.specs.Netlist.{Netlist}

@@ -1,8 +1,8 @@
--- What each verdict says of readings. Assumes nothing.
+-- What each verdict says of readings.
 use Rattle.std.specs.Prelude.{◌≡◌, List, length}
 use Rattle.quantity.specs.Group.{Group}
 use Rattle.netlist.specs.Netlist.{Netlist}
-use Rattle.network.specs.Balances.{Balances}
+use Rattle.network.specs.ReadingsAgree.{ReadingsAgree}
 use Rattle.network.specs.Flows.{NodesKeep, FirstNode}
 use Rattle.network.specs.Laws.{LawsHold, FirstLaw}
 use Rattle.network.specs.Walks.{network_of, Refuted}
@@ -13,7 +13,7 @@ use Rattle.checking.specs.declared.verdicts.Verdict.TheVariants.{Holds, Law, Nod
 -- lowest whose flows do not add to zero. If none is, row k is the lowest such that the rows up to it have a
 -- closed walk that does not add to zero.
 abbrev pub VerdictIs : {G : Type 0} → Group G → Netlist → List G → List G → Verdict → Type 0
-VerdictIs 𝓖 b values rates Holds = Balances 𝓖 b values rates
+VerdictIs 𝓖 b values rates Holds = ReadingsAgree 𝓖 b values rates
 VerdictIs 𝓖 b values rates (Law k) = FirstLaw 𝓖 b.laws values rates k
 VerdictIs 𝓖 b values rates (Node n) =
     LawsHold 𝓖 b.laws values rates (length b.laws) × FirstNode 𝓖 b.rows values (length b.domains) n

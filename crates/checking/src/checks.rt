@@ -1,4 +1,4 @@
-// The check of readings against a sheet.
+//! The check of readings against a sheet.
 ghost use Rattle.netlist.specs.Sound.{Sound};
 ghost use Rattle.checking.specs.Checked.{Checked};
 ghost use Rattle.checking.specs.Verdicts.{OneVerdict};
@@ -11,9 +11,9 @@ use quantity::Quantity;
 use sheet::Sheet;
 use walk_test::{ByVariable, Finding, Workspace, clear, test_walks};
 
-// Takes a value and a rate of each variable, and says whether they agree with the sheet. If they do, the
-// buffer gets the potential of each node: they satisfy all equations, the earth is at zero and so is the lowest
-// node of each part without an earth. If not, each potential is zero.
+/// Takes a value and a rate of each variable, and says whether they agree with the sheet. If they do, the
+/// buffer gets the potential of each node: they satisfy all equations, the earth is at zero and so is the lowest
+/// node of each part without an earth. If not, each potential is zero.
 pub fn check<K: Quantity>(
     sheet: &Sheet,
     values: &[K],
@@ -34,13 +34,13 @@ pub fn check<K: Quantity>(
         return Ok(Verdict::Node { node });
     }
     match test_walks(rows, &ByVariable { values }, potentials, workspace).unwrap() {
-        Finding::Balanced => Ok(Verdict::Holds),
-        Finding::Unbalanced { row } => Ok(Verdict::Row { row }),
+        Finding::WalksClose => Ok(Verdict::Holds),
+        Finding::SomeWalkFails { row } => Ok(Verdict::Row { row }),
     }
 }
 
-// `check` is left no choice: readings of a sheet have one verdict. This computes nothing: the theorem is
-// the contract.
+/// `check` is left no choice: readings of a sheet have one verdict. This computes nothing: the theorem is
+/// the contract.
 pub fn one_verdict<K: Quantity>()
     ensures { OneVerdict K.group }
 {}

@@ -1,4 +1,4 @@
-// Whether a check can begin.
+//! Whether a check can begin.
 ghost use Rattle.std.specs.Prelude.{◌≡◌};
 ghost use Rattle.netlist.specs.Rules.{answer};
 ghost use Rattle.checking.specs.Checked.{judge_check};
@@ -6,7 +6,7 @@ ghost use Rattle.checking.specs.Checked.{judge_check};
 use netlist::refusals::Refusal;
 use sheet::Sheet;
 
-// Asks for as many values and rates as the sheet has variables, and as many potentials as it has nodes.
+/// Asks for as many values and rates as the sheet has variables, and as many potentials as it has nodes.
 pub fn judge_counts(
     sheet: &Sheet,
     values: usize,

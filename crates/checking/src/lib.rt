@@ -1,4 +1,4 @@
-// Whether readings agree with an issued sheet, and the potentials if they do.
+//! Whether readings agree with an issued sheet, and the potentials if they do.
 #![tactic(auto)]
 
 mod checks;

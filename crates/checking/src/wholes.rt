@@ -1,7 +1,7 @@
-// The check of readings that are whole numbers.
+//! The check of readings that are whole numbers.
 ghost use Rattle.std.specs.Prelude.{IfOk};
 ghost use Rattle.quantity.specs.Wholes.{wholes};
-ghost use Rattle.exact.specs.Small.{AreSmall};
+ghost use Rattle.small_readings.specs.Small.{AreSmall};
 ghost use Rattle.checking.specs.Checked.{Checked};
 ghost use Rattle.checking.specs.Integers.{JudgesIntegers};
 
@@ -12,8 +12,8 @@ use quantity::Whole;
 use sheet::Sheet;
 use walk_test::Workspace;
 
-// As `check`, modulo 2^64. Where all values and rates are from -2^40 to 2^40 nothing is lost: the verdict and
-// the potentials are those over the unbounded integers.
+/// As `check`, modulo 2^64. Where all values and rates are from -2^40 to 2^40 nothing is lost: the verdict and
+/// the potentials are those over the unbounded integers.
 pub fn check_whole(
     sheet: &Sheet,
     values: &[Whole],

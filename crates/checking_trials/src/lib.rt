@@ -1,4 +1,4 @@
-// Trials of the check: small sheets and readings.
+//! Trials of the check: small sheets and readings.
 #![tactic(auto)]
 
 #[cfg(test)]

@@ -1,10 +1,10 @@
-// Small sheets.
+//! Small sheets.
 use netlist::terms::RawTerm;
 use sheet::{Draft, Sheet};
 use std::alloc::Global;
 use std::test::Fail;
 
-// Three nodes with a branch between each two of them.
+/// Three nodes with a branch between each two of them.
 pub fn triangle(heap: Global) -> Result<Sheet, Fail> {
     let mut draft = Draft::new(heap)?;
     draft.node(1)?;
@@ -17,7 +17,7 @@ pub fn triangle(heap: Global) -> Result<Sheet, Fail> {
     Ok(draft.issue())
 }
 
-// One node, and a branch from it to itself.
+/// One node, and a branch from it to itself.
 pub fn ring(heap: Global) -> Result<Sheet, Fail> {
     let mut draft = Draft::new(heap)?;
     draft.node(1)?;
@@ -26,7 +26,7 @@ pub fn ring(heap: Global) -> Result<Sheet, Fail> {
     Ok(draft.issue())
 }
 
-// A branch and an earth behind it: the across of the one is 200 times its flow, that of the other is zero.
+/// A branch and an earth behind it: the across of the one is 200 times its flow, that of the other is zero.
 pub fn drive(heap: Global) -> Result<Sheet, Fail> {
     let mut draft = Draft::new(heap)?;
     draft.node(1)?;
@@ -39,7 +39,7 @@ pub fn drive(heap: Global) -> Result<Sheet, Fail> {
     Ok(draft.issue())
 }
 
-// Two variables without rows: the value of one is the rate of the other.
+/// Two variables without rows: the value of one is the rate of the other.
 pub fn rate(heap: Global) -> Result<Sheet, Fail> {
     let mut draft = Draft::new(heap)?;
     draft.variables(2)?;

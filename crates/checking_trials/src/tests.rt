@@ -1,4 +1,4 @@
-// What the check says of them.
+//! What the check says of them.
 use super::sheets::{drive, rate, ring, triangle};
 use checking::{Verdict, check, check_whole, one_verdict};
 use netlist::refusals::Refusal;

@@ -1,4 +1,4 @@
--- From what the fields of a line spell to what the line commands. Assumes nothing.
+-- From what the fields of a line spell to what the line commands.
 use Rattle.std.proofs.Common.{◌≡◌, ℕ, zero, suc, ◌≤◌, List, [], ◌∷◌, ◌++◌, length, get_or, drop, sym, refl, ap, ◌∙◌, subst, append-nil, arith}
 use Rattle.text.specs.declared.kinds.Kind.{Kind}
 use Rattle.text.specs.declared.line.Fields.{Fields}

@@ -1,4 +1,4 @@
--- What the fields after a letter write, field by field. Assumes nothing.
+-- What the fields after a letter write, field by field.
 use Rattle.std.proofs.Common.{◌≡◌, ℕ, ◌+◌, List, [], ◌∷◌, get_or, drop, ℤ, sym, refl, ap, ◌∙◌, subst, add-zero}
 use Rattle.std.proofs.lemmas.List.{get_or-drop, drop-drop}
 use Rattle.text.specs.declared.kinds.Kind.{Kind}

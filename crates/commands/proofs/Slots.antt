@@ -1,4 +1,4 @@
--- The terms of a law, slot by slot. Assumes nothing.
+-- The terms of a law, slot by slot.
 use Rattle.std.proofs.Common.{◌≡◌, ℕ, zero, suc, ◌+◌, ◌-◌, ◌<◌, ◌≤◌, List, [], ◌∷◌, ◌++◌, length, set, replicate, sym, ap, ◌∙◌, append_assoc, append-nil, arith, length-append}
 use Rattle.std.proofs.lemmas.List.{set_at}
 use Rattle.netlist.specs.declared.terms.RawTerm.{RawTerm}

@@ -1,4 +1,4 @@
--- The value of a field, by how it is written. Assumes nothing.
+-- The value of a field, by how it is written.
 use Rattle.std.proofs.Common.{◌≡◌, ℕ, ◌<◌, ◌≤◌, Option, Some, None, MatchOption, eqb, [], ◌∷◌, length, get_or, ℤ, pos, neg_ℤ, sym, ap, ◌∙◌, subst, ⊎_elim, arith, w32, w64, to_z, of_z}
 use lib.Signed.{mag}
 use Rattle.std.proofs.lemmas.Int.{ints}

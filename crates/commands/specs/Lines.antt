@@ -1,4 +1,4 @@
--- What a line commands. Assumes nothing.
+-- What a line commands.
 use Rattle.std.specs.Prelude.{◌≡◌, ℕ, List, ◌∷◌}
 use Rattle.text.specs.declared.kinds.Kind.{Kind}
 use Rattle.text.specs.declared.line.Line.{Line}

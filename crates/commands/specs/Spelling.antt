@@ -1,4 +1,4 @@
--- What a letter and the fields after it spell. Assumes nothing.
+-- What a letter and the fields after it spell.
 use Rattle.std.specs.Prelude.{ℕ, ◌-◌, cond, List, [], ◌∷◌, ◌++◌, length, drop, replicate, ℤ, pos, ◌==◌, slice_index, slice_index_or}
 use Rattle.netlist.specs.declared.terms.RawTerm.{RawTerm}
 use Rattle.text.specs.Grammar.{Bytes}

@@ -1,4 +1,4 @@
--- What is read from the rest of a line: s before, t after. Assumes nothing.
+-- What is read from the rest of a line: s before, t after.
 use Rattle.std.specs.Prelude.{◌≡◌, ℕ, ◌≤◌, List, [], ◌∷◌, ℤ, IfSome, Option, MatchOption}
 use Rattle.netlist.specs.declared.terms.RawTerm.{RawTerm}
 use Rattle.text.specs.declared.kinds.Kind.{Kind}

@@ -1,4 +1,4 @@
-// What a line commands, before it is judged. A domain is any number, which a draft may refuse.
+//! What a line commands, before it is judged. A domain is any number, which a draft may refuse.
 use super::terms::Terms;
 
 #[derive(Clone, Copy, PartialEq, Eq, Debug)]
@@ -21,7 +21,7 @@ pub enum Command {
         node: usize,
     },
     Law(Terms),
-    // So many singles in series, between two nodes.
+    /// So many singles in series, between two nodes.
     Repeat {
         domain: u32,
         coefficients: [i64; 4],
@@ -29,6 +29,6 @@ pub enum Command {
         first: usize,
         second: usize,
     },
-    // A comment or an empty line.
+    /// A comment or an empty line.
     Nothing,
 }

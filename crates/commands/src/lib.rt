@@ -1,4 +1,4 @@
-// What the lines of a sheet text command, as numbers that borrow nothing.
+//! What the lines of a sheet text command, as numbers that borrow nothing.
 #![tactic(auto)]
 
 mod command;

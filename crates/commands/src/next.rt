@@ -1,4 +1,4 @@
-// The values of a line's next fields.
+//! The values of a line's next fields.
 ghost use Rattle.text.specs.Reading.{rest_of};
 ghost use Rattle.commands.specs.Steps.{ReadsNumber, ReadsCoefficient, ReadsTerm, ReadsNoTerm};
 

@@ -1,4 +1,4 @@
-// From a line of the text to what it commands.
+//! From a line of the text to what it commands.
 ghost use Rattle.std.specs.Prelude.{◌≡◌, MatchResult};
 ghost use Rattle.commands.specs.Lines.{Follows, Commands, Faulty};
 
@@ -6,7 +6,7 @@ use super::command::Command;
 use super::values::{branch, earth, law, node, repeat, variables};
 use text::{Fault, Line, TextLine, read_line};
 
-// What a line that was read commands.
+/// What a line that was read commands.
 pub fn command_of(line: Line<'_>) -> Command
     ensures { Follows line.entry result }
 {
@@ -21,7 +21,7 @@ pub fn command_of(line: Line<'_>) -> Command
     }
 }
 
-// What the line commands, or where it goes wrong.
+/// What the line commands, or where it goes wrong.
 pub fn read_command(line: TextLine<'_>) -> Result<Command, Fault>
     ensures { MatchResult result (λ v. Commands line.entry.bytes.now v) (λ f. Faulty line.entry.bytes.now f.column) }
 {

@@ -1,10 +1,10 @@
-// The terms of one law.
+//! The terms of one law.
 ghost use Rattle.std.specs.Prelude.{◌≡◌, ◌+◌, ◌<◌, take, slice_set};
 
 use netlist::terms::{MOST_TERMS, RawTerm};
 
-// The first `count` of the slots are the law's terms. An `ArrayVec` would not be `Copy`, which a
-// command may not lose.
+/// The first `count` of the slots are the law's terms. An `ArrayVec` would not be `Copy`, which a
+/// command may not lose.
 #[derive(Clone, Copy, PartialEq, Eq, Debug)]
 pub struct Terms {
     pub slots: [RawTerm; MOST_TERMS],
@@ -22,7 +22,7 @@ impl Terms {
         self.count += 1;
     }
 
-    // The law's terms.
+    /// The law's terms.
     pub fn as_slice(&self) -> &[RawTerm]
         ensures { result.now ≡ take self.now.count self.now.slots }
     {

@@ -1,4 +1,4 @@
-// The command of each letter, from the fields after it.
+//! The command of each letter, from the fields after it.
 ghost use Rattle.std.specs.Prelude.{ℕ, [], ◌∷◌};
 ghost use Rattle.text.specs.Reading.{rest_of};
 ghost use Rattle.text.specs.declared.kinds.Kind.TheVariants.{Number, Coefficient};

@@ -1,4 +1,4 @@
--- A buffer that is filled from its start on, one element or one list after another. Assumes nothing.
+-- A buffer that is filled from its start on, one element or one list after another.
 use Rattle.std.proofs.Common.{◌≡◌, ◌+◌, ◌<◌, ◌≤◌, List, [], ◌∷◌, ◌++◌, length, get_or, drop, set, sym, ap, ◌∙◌, arith}
 use Rattle.std.proofs.lemmas.List.{set_at, drop_more, append_assoc, length_push, length-append, length-drop}
 use Rattle.netlist.specs.Buffers.{written, over}

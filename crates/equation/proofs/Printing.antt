@@ -1,4 +1,4 @@
--- A line that is printed, and what the call then answers. Assumes nothing.
+-- A line that is printed, and what the call then answers.
 use Rattle.std.proofs.Common.{◌≡◌, ℕ, ◌<◌, ◌≤◌, List, length, Some, Option, Result, sym, ap, ◌∙◌}
 use Rattle.std.proofs.lemmas.Bool.{le-leb, lt-leb, cond-true, cond-false}
 use Rattle.netlist.specs.declared.refusals.Refusal.{Refusal}

@@ -1,4 +1,4 @@
--- Writing equations into two buffers, one equation after another. Assumes nothing.
+-- Writing equations into two buffers, one equation after another.
 use Rattle.std.proofs.Common.{◌≡◌, ℕ, ◌+◌, ◌<◌, ◌≤◌, List, [], ◌∷◌, ◌++◌, length, get_or, take, set, sym, refl, ap, ◌∙◌, arith}
 use Rattle.std.proofs.lemmas.List.{length-append, length-take-le, take_more, take_all}
 use Rattle.netlist.specs.declared.spans.Span.{Span}

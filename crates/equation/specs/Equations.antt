@@ -1,4 +1,4 @@
--- The equations of a netlist, each a list of terms that add up to zero. Assumes nothing.
+-- The equations of a netlist, each a list of terms that add up to zero.
 use Rattle.std.specs.Prelude.{ℕ, ◌+◌, cond, List, [], ◌∷◌, ◌++◌, map, length, pos, negsuc, Some, None, Option, ◌==◌}
 use Rattle.std.specs.List.{range_with_len, flat_map}
 use Rattle.std.specs.Option.{option_to_list}

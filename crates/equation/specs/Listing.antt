@@ -1,4 +1,4 @@
--- How the equations lie in two lent buffers, and when these are too short. Assumes nothing.
+-- How the equations lie in two lent buffers, and when these are too short.
 use Rattle.std.specs.Prelude.{ℕ, ◌+◌, ◌||◌, List, [], ◌∷◌, length, Option, Result, nat_lt}
 use Rattle.netlist.specs.declared.refusals.Refusal.{Refusal}
 use Rattle.netlist.specs.declared.refusals.Refusal.TheVariants.{ShortBuffer}

@@ -1,5 +1,5 @@
 -- Where the flows stand in the equations of the nodes: what the listed equations owe to the rows, told
--- row by row. Assumes nothing.
+-- row by row.
 use Rattle.std.specs.Prelude.{◌≡◌, ℕ, ◌+◌, ◌<◌, cond, List, [], ◌∷◌, length, ◌==◌, ◌≢◌, slice_index_or}
 use Rattle.netlist.specs.declared.rows.Row.{Row}
 use Rattle.netlist.specs.declared.rows.Row.TheVariants.{Branch, Earth}

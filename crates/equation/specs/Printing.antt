@@ -1,4 +1,4 @@
--- What the line of equation k is, and when it is not printed. Assumes nothing.
+-- What the line of equation k is, and when it is not printed.
 use Rattle.std.specs.Prelude.{◌≡◌, ℕ, List, [], ◌∷◌, length, Option, Result, nat_le, slice_index_or}
 use Rattle.netlist.specs.declared.refusals.Refusal.{Refusal}
 use Rattle.netlist.specs.declared.refusals.Refusal.TheVariants.{NoEquation}

@@ -1,4 +1,4 @@
--- What the functions that write equations one after another say of their work. Assumes nothing.
+-- What the functions that write equations one after another say of their work.
 use Rattle.std.specs.Prelude.{◌≡◌, ℕ, ◌+◌, ◌^◌, ◌<◌, cond, List, length, ◌==◌, slice_set}
 use Rattle.netlist.specs.declared.rows.Row.{Row}
 use Rattle.netlist.specs.declared.rows.Row.TheVariants.{Branch, Earth}

@@ -1,4 +1,4 @@
-// The equations that an issued sheet stands for: listed into lent buffers, and printed line by line.
+//! The equations that an issued sheet stands for: listed into lent buffers, and printed line by line.
 #![tactic(auto)]
 
 pub mod lines;

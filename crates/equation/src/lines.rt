@@ -1,4 +1,4 @@
-// The call that prints one equation of a sheet.
+//! The call that prints one equation of a sheet.
 ghost use Rattle.std.specs.Prelude.{◌≡◌};
 ghost use Rattle.netlist.specs.Buffers.{filled};
 ghost use Rattle.spelling.specs.Lines.{line_text};
@@ -13,8 +13,8 @@ use sheet::Sheet;
 use sheet::drafts::MAX_ROWS;
 use spelling::lines::write_line;
 
-// A buffer of so many bytes holds each line of a sheet: the sum at a node, the longest, has at most 1,500
-// terms, each of at most 8 bytes with its blank.
+/// A buffer of so many bytes holds each line of a sheet: the sum at a node, the longest, has at most 1,500
+/// terms, each of at most 8 bytes with its blank.
 pub const LINE_BYTES: usize = 16_384;
 
 // Prints the sum of the flows at a node.
@@ -27,7 +27,7 @@ fn node_line(sheet: &Sheet, node: usize, buffer: &mut [u8]) -> Result<usize, Ref
     write_line(&terms[..count], sheet.variables(), buffer)
 }
 
-// Prints equation `k` of the sheet, and answers how many bytes that took.
+/// Prints equation `k` of the sheet, and answers how many bytes that took.
 pub fn line(sheet: &Sheet, k: usize, buffer: &mut [u8]) -> Result<usize, Refusal>
     ensures answer { result ≡ answer_line sheet.now k buffer.old }
     ensures buffer { buffer.new ≡ filled (judge_line sheet.now k buffer.old) buffer.old (line_of sheet.now k) }

@@ -1,4 +1,4 @@
-// The call that lists the equations of a sheet.
+//! The call that lists the equations of a sheet.
 ghost use Rattle.std.specs.Prelude.{◌≡◌, length};
 ghost use Rattle.netlist.specs.Buffers.{filled};
 ghost use Rattle.netlist.specs.Pieces.{flat};
@@ -13,14 +13,14 @@ use netlist::spans::Span;
 use netlist::terms::Term;
 use sheet::Sheet;
 
-// How many terms and how many equations there are.
+/// How many terms and how many equations there are.
 #[derive(Clone, Copy, PartialEq, Eq, Debug)]
 pub struct Listing {
     pub terms: usize,
     pub equations: usize,
 }
 
-// How much the equations of a sheet need of two buffers.
+/// How much the equations of a sheet need of two buffers.
 pub fn size(sheet: &Sheet) -> Listing
     ensures { result ≡ listing_of sheet.now }
 {
@@ -32,8 +32,8 @@ pub fn size(sheet: &Sheet) -> Listing
     }
 }
 
-// Writes the sheet's equations: all their terms into one buffer, and into the other where each equation
-// begins and how many terms it has. Answers how many of each are written.
+/// Writes the sheet's equations: all their terms into one buffer, and into the other where each equation
+/// begins and how many terms it has. Answers how many of each are written.
 #[tactic(auto, using(crate::proofs::Placing::placed))]
 pub fn equations(sheet: &Sheet, terms: &mut [Term], spans: &mut [Span]) -> Result<Listing, Refusal>
     ensures answer { result ≡ answer_equations sheet.now (length terms.old) (length spans.old) }

@@ -1,4 +1,4 @@
-// The sum of the flows at a node.
+//! The sum of the flows at a node.
 ghost use Rattle.std.specs.Prelude.{◌≡◌, ◌≤◌, length};
 ghost use Rattle.netlist.specs.Buffers.{over};
 ghost use Rattle.equation.specs.Equations.{term_at, node_sum};

@@ -1,4 +1,4 @@
-// The equation of a row.
+//! The equation of a row.
 ghost use Rattle.std.specs.Prelude.{◌≡◌, ◌≤◌, length, sum_by};
 ghost use Rattle.equation.specs.Equations.{row_equation};
 ghost use Rattle.equation.specs.Writing.{Numbered, row_size, terms_of};

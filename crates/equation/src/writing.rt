@@ -1,4 +1,4 @@
-// All equations of a sheet, written one after another.
+//! All equations of a sheet, written one after another.
 ghost use Rattle.std.specs.Prelude.{◌≡◌, ◌+◌, ◌<◌, ◌≤◌, length, slice_set};
 ghost use Rattle.netlist.specs.Buffers.{over};
 ghost use Rattle.netlist.specs.Pieces.{flat};

@@ -1,10 +1,10 @@
-// Trials of what counts as a small reading: at the bounds, one past them, and one among many.
+//! Trials of what counts as a small reading: at the bounds, one past them, and one among many.
 #![tactic(auto)]
 
 #[cfg(test)]
 mod tests {
-    use exact::all_small;
     use quantity::Whole;
+    use small_readings::all_small;
 
     const MOST: i64 = 1 << 40;
 

@@ -1,5 +1,5 @@
-// Reads each example sheet, and readings of it that agree and that do not, and tells whether what is printed is
-// what its file says.
+//! Reads each example sheet, and readings of it that agree and that do not, and tells whether what is printed is
+//! what its file says.
 #![tactic(auto)]
 
 use answering::answer;

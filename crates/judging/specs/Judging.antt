@@ -1,4 +1,4 @@
--- What is asked of a row or a law. Assumes nothing.
+-- What is asked of a row or a law.
 use Rattle.std.specs.Prelude.{◌≡◌, ℕ, ◌≤◌, Bool, ◌||◌, List, [], ◌∷◌, map, length, take, Some, None, Option, Result, MatchResult, ◌==◌, nat_le}
 use Rattle.netlist.specs.declared.refusals.Argument.{Argument}
 use Rattle.netlist.specs.declared.refusals.Argument.TheVariants.{Flow, Across}

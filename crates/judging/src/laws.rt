@@ -1,4 +1,4 @@
-// What can be wrong with a law, apart from want of room; and the terms of one that passes.
+//! What can be wrong with a law, apart from want of room; and the terms of one that passes.
 ghost use Rattle.std.specs.Prelude.{◌≡◌};
 ghost use Rattle.netlist.specs.Netlist.{term_of};
 ghost use Rattle.netlist.specs.Rules.{first_of, table_term, table_law};
@@ -34,7 +34,7 @@ fn accept_term(variables: usize, i: usize, raw: RawTerm) -> Result<Term, Refusal
     })
 }
 
-// The terms of a law over so many variables, in the first places of an array, which needs no memory.
+/// The terms of a law over so many variables, in the first places of an array, which needs no memory.
 pub fn accept_terms(variables: usize, terms: &[RawTerm]) -> Result<[Term; MAX_LENGTH], Refusal>
     ensures { Accepts (first_of (table_law variables terms.now)) (BeginsWith terms.now) result }
 {

@@ -1,4 +1,4 @@
-// Rows and laws are judged before they are drawn, apart from want of room.
+//! Rows and laws are judged before they are drawn, apart from want of room.
 #![tactic(auto)]
 
 pub mod laws;

@@ -1,4 +1,4 @@
-// What can be wrong with a row, apart from want of room.
+//! What can be wrong with a row, apart from want of room.
 ghost use Rattle.std.specs.Prelude.{◌≡◌};
 ghost use Rattle.netlist.specs.Domains.{domain_number};
 ghost use Rattle.netlist.specs.Rules.{first_of, domain_of, row_tests};
@@ -9,7 +9,7 @@ use netlist::domains::Domain;
 use netlist::refusals::{Argument, Refusal};
 use netlist::rows::Row;
 
-// Judges the nodes and variables that a row names.
+/// Judges the nodes and variables that a row names.
 pub fn judge_row<G: Setting>(setting: &G, row: Row) -> Result<(), Refusal>
     ensures { Tells (first_of (row_tests (G.Setting.domains setting.now) (G.Setting.variables setting.now) (G.Setting.taken setting.now) row)) result }
 {
@@ -37,7 +37,7 @@ pub fn judge_row<G: Setting>(setting: &G, row: Row) -> Result<(), Refusal>
     }
 }
 
-// The domain of a node that an argument names, if it is drawn.
+/// The domain of a node that an argument names, if it is drawn.
 pub fn find_node<G: Setting>(
     setting: &G,
     node: usize,

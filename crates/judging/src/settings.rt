@@ -1,10 +1,10 @@
-// What rows are judged on.
+//! What rows are judged on.
 ghost use Rattle.std.specs.Prelude.{◌≡◌, ℕ, ◌<◌, ◌≤◌, Bool, List, length, MatchOption, slice_index};
 ghost use Rattle.netlist.specs.Domains.{domain_number};
 
 use netlist::domains::Domain;
 
-// The nodes and the variables that a row may name, and which of the variables are taken.
+/// The nodes and the variables that a row may name, and which of the variables are taken.
 pub trait Setting {
     ghost domains: { Self → List ℕ };
 
@@ -12,11 +12,11 @@ pub trait Setting {
 
     ghost taken: { Self → ℕ → Bool };
 
-    // The domain of a node, if it is drawn.
+    /// The domain of a node, if it is drawn.
     fn domain(&self, node: usize) -> Option<Domain>
         ensures { MatchOption result (length (domains self.now) ≤ node) (λ d. (node < length (domains self.now)) × (slice_index (domains self.now) node ≡ domain_number d)) };
 
-    // Whether a variable is taken, if it is drawn.
+    /// Whether a variable is taken, if it is drawn.
     fn is_taken(&self, variable: usize) -> Option<bool>
         ensures { MatchOption result (variables self.now ≤ variable) (λ b. (variable < variables self.now) × (taken self.now variable ≡ b)) };
 }

@@ -1,4 +1,4 @@
--- The two ends of a plan. Assumes nothing.
+-- The two ends of a plan.
 use Rattle.std.proofs.Common.{◌≡◌, List, [], ◌∷◌, length, arith}
 
 -- What holds of any two ends holds of the ends of a plan.

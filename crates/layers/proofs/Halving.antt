@@ -1,4 +1,4 @@
--- A layer of two parts, from how its plan is laid out. Assumes nothing.
+-- A layer of two parts, from how its plan is laid out.
 use Rattle.std.proofs.Common.{◌≡◌, ℕ, ◌+◌, Bool, true, false, ◌++◌, length, Some, None, Option, sym, refl, ap, ◌∙◌, subst, arith}
 use Rattle.std.proofs.lemmas.List.{length-append, length-map}
 use Rattle.assembly.specs.declared.plans.Size.{Size}

@@ -1,4 +1,4 @@
--- Sizes, and when they are small. Assumes nothing.
+-- Sizes, and when they are small.
 use Rattle.std.proofs.Common.{◌≡◌, ℕ, ◌≤◌, true, map, length, arith}
 use Rattle.std.proofs.lemmas.Bool.Decides.{nat_tests}
 use Rattle.assembly.specs.declared.plans.Size.{Size}

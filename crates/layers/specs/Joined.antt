@@ -1,4 +1,4 @@
--- What two parts of a layer have together: the first part's things, and behind them the second's. Assumes nothing.
+-- What two parts of a layer have together: the first part's things, and behind them the second's.
 use Rattle.std.specs.Prelude.{List, ◌++◌, map, drop}
 use Rattle.netlist.specs.declared.domains.Domain.{Domain}
 use Rattle.assembly.specs.Plans.{PlanRow, PlanTerm}

@@ -1,4 +1,4 @@
--- When a layer has a plan. Assumes nothing.
+-- When a layer has a plan.
 use Rattle.std.specs.Prelude.{ℕ, Bool, false, cond, ◌&&◌, List, take, drop, Some, None, Option, ◌==◌}
 use Rattle.std.specs.List.{slice_get}
 use Rattle.netlist.specs.declared.domains.Domain.{Domain}

@@ -1,4 +1,4 @@
--- What becomes of a part's nodes, variables, rows and laws in the layer that holds it. Assumes nothing.
+-- What becomes of a part's nodes, variables, rows and laws in the layer that holds it.
 use Rattle.std.specs.Prelude.{ℕ, List, ◌∷◌, map, slice_index_or}
 use Rattle.std.specs.List.{range_with_len}
 use Rattle.netlist.specs.declared.rows.Row.TheVariants.{Branch, Earth}

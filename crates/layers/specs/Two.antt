@@ -1,4 +1,4 @@
--- Layers of two parts. Assumes nothing.
+-- Layers of two parts.
 use Rattle.std.specs.Prelude.{◌≡◌, ℕ, ◌+◌, Bool, true, false, Option, MatchOption}
 use Rattle.assembly.specs.declared.plans.Size.{Size}
 use Rattle.assembly.specs.Meaning.{Meaning, void, plan, Plan, Bounded, size_in, rows_of, laws_of, is_small}

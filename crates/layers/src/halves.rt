@@ -1,10 +1,10 @@
-// A layer of two parts.
+//! A layer of two parts.
 ghost use Rattle.std.specs.Prelude.{◌+◌, ◌≤◌};
 
 use super::renumbering::Renumbering;
 use assembly::plans::Size;
 
-// What the two parts of a layer have, and what the layer has. Sixteen bits hold the layer's numbers.
+/// What the two parts of a layer have, and what the layer has. Sixteen bits hold the layer's numbers.
 #[derive(Clone, Copy)]
 pub struct Halves {
     pub first: Size,
@@ -18,8 +18,8 @@ impl Halves {
     ghost use Rattle.std.specs.Prelude.{◌≡◌};
     ghost use Rattle.layers.specs.Two.{SmallHalves, front_between, back_between};
 
-    // The parts together with the joints between them, which are inner nodes of the layer; `None` where
-    // the layer would have too much.
+    /// The parts together with the joints between them, which are inner nodes of the layer; `None` where
+    /// the layer would have too much.
     pub fn new(first: Size, second: Size, joints: u32) -> Option<Halves>
         ensures { SmallHalves joints first second result }
     {
@@ -43,7 +43,7 @@ impl Halves {
         })
     }
 
-    // Where the first part's things go, between these nodes of the layer.
+    /// Where the first part's things go, between these nodes of the layer.
     pub fn front(self, first: u16, second: u16) -> Renumbering
         ensures { result ≡ front_between first second self.first }
     {
@@ -57,7 +57,7 @@ impl Halves {
         }
     }
 
-    // Where the second part's things go, between these nodes: behind the first part's.
+    /// Where the second part's things go, between these nodes: behind the first part's.
     pub fn back(self, first: u16, second: u16) -> Renumbering
         ensures { result ≡ back_between first second self.first self.second }
     {

@@ -1,4 +1,4 @@
-// What a layer of two parts gathers from them.
+//! What a layer of two parts gathers from them.
 ghost use Rattle.std.specs.Prelude.{◌≡◌, ◌+◌, [], length, slice_index_or};
 ghost use Rattle.std.specs.Option.{option_map};
 ghost use Rattle.std.specs.List.{slice_get};
@@ -11,7 +11,7 @@ use assembly::Assembly;
 use assembly::plans::{PlanRow, PlanTerm};
 use netlist::domains::Domain;
 
-// The two parts of a layer, what they have, and where the things of each go.
+/// The two parts of a layer, what they have, and where the things of each go.
 pub struct Pair<'a, A: Assembly, B: Assembly> {
     pub first: &'a A,
     pub second: &'a B,
@@ -37,7 +37,7 @@ impl<A: Assembly, B: Assembly> Drop for Pair<'_, A, B> {
 }
 
 impl<A: Assembly, B: Assembly> Pair<'_, A, B> {
-    // The domain of a node of the first part, or behind these of an inner node of the second.
+    /// The domain of a node of the first part, or behind these of an inner node of the second.
     pub fn domain(&self, node: usize) -> Option<Domain>
         ensures { result ≡ slice_get (joined_domains (A.Assembly.meaning self.now.first.now) (B.Assembly.meaning self.now.second.now)) node }
     {
@@ -60,7 +60,7 @@ impl<A: Assembly, B: Assembly> Pair<'_, A, B> {
         }
     }
 
-    // The number of terms of law `k`.
+    /// The number of terms of law `k`.
     pub fn law_len(&self, k: usize) -> Option<usize>
         ensures { result ≡ option_map length (slice_get (joined_laws self.now.front self.now.back (A.Assembly.meaning self.now.first.now) (B.Assembly.meaning self.now.second.now)) k) }
     {
@@ -72,7 +72,7 @@ impl<A: Assembly, B: Assembly> Pair<'_, A, B> {
         }
     }
 
-    // Term `t` of law `k`.
+    /// Term `t` of law `k`.
     pub fn term(&self, k: usize, t: usize) -> Option<PlanTerm>
         ensures { result ≡ slice_get (slice_index_or (joined_laws self.now.front self.now.back (A.Assembly.meaning self.now.first.now) (B.Assembly.meaning self.now.second.now)) k []) t }
     {

@@ -1,4 +1,4 @@
-// Where the nodes and variables of a part go in the layer that holds it.
+//! Where the nodes and variables of a part go in the layer that holds it.
 ghost use Rattle.std.specs.Prelude.{◌≡◌, slice_index_or};
 ghost use Rattle.std.specs.Option.{option_map};
 ghost use Rattle.std.specs.List.{range_with_len};
@@ -10,16 +10,16 @@ use assembly::plans::{PlanRow, PlanTerm};
 // `None`, since a row names its nodes and variables by numbers.
 const ABSENT: u32 = 10000;
 
-// A layer has at most 6,000 inner nodes and variables, so that sixteen bits hold their numbers.
+/// A layer has at most 6,000 inner nodes and variables, so that sixteen bits hold their numbers.
 #[derive(Clone, Copy)]
 pub struct Renumbering {
-    // The layer's nodes that are the part's first and second end.
+    /// The layer's nodes that are the part's first and second end.
     pub first: u16,
     pub second: u16,
-    // How many inner nodes the part has, and the layer's number of the first of them.
+    /// How many inner nodes the part has, and the layer's number of the first of them.
     pub inner: u16,
     pub inner_from: u16,
-    // How many variables the part has, and the layer's number of the first of them.
+    /// How many variables the part has, and the layer's number of the first of them.
     pub variables: u16,
     pub variables_from: u16,
 }
@@ -75,14 +75,14 @@ impl Renumbering {
         }
     }
 
-    // The layer's row for a row of the part, where the part has it.
+    /// The layer's row for a row of the part, where the part has it.
     pub fn row(self, row: Option<PlanRow>) -> Option<PlanRow>
         ensures { result ≡ option_map (moved_row self) row }
     {
         row.map(|row| self.moved_row(row))
     }
 
-    // The layer's term for a term of the part, where the part has it.
+    /// The layer's term for a term of the part, where the part has it.
     pub fn term(self, term: Option<PlanTerm>) -> Option<PlanTerm>
         ensures { result ≡ option_map (moved_term self) term }
     {

@@ -1,4 +1,4 @@
--- What the assemblies of the trials mean. Assumes nothing.
+-- What the assemblies of the trials mean.
 use Rattle.std.specs.Prelude.{[], ◌∷◌, pos}
 use Rattle.netlist.specs.declared.rows.Row.TheVariants.{Branch, Earth}
 use Rattle.assembly.specs.Plans.{PlanTerm}

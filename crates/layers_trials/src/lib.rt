@@ -1,4 +1,4 @@
-// Trials of the layers, over two small assemblies.
+//! Trials of the layers, over two small assemblies.
 #![tactic(auto)]
 
 #[cfg(test)]

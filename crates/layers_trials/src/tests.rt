@@ -1,11 +1,11 @@
-// Layers of known parts, and the numbers that they give.
+//! Layers of known parts, and the numbers that they give.
 use super::trial_parts::{Coupler, Nothing};
 use assembly::Assembly;
 use assembly::plans::{PlanRow, PlanTerm, Size};
-use beside::SideBySide;
 use netlist::domains::Domain;
 use repeat::Repeat;
 use series::Series;
+use side_by_side::SideBySide;
 
 fn shaft() -> Coupler {
     Coupler {

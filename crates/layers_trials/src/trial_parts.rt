@@ -1,12 +1,12 @@
-// Two assemblies to make layers of.
+//! Two assemblies to make layers of.
 ghost use Rattle.layers_trials.specs.Parts.{coupler, nothing};
 
 use assembly::Assembly;
 use assembly::plans::{PlanRow, PlanTerm, Size};
 use netlist::domains::Domain;
 
-// An inner node of the second end's domain, a branch to it from the first end, a row that names a node
-// and a variable that are not there, and a law of one term.
+/// An inner node of the second end's domain, a branch to it from the first end, a row that names a node
+/// and a variable that are not there, and a law of one term.
 #[derive(Clone, Copy)]
 pub struct Coupler {
     pub first: Domain,
@@ -63,7 +63,7 @@ impl Assembly for Coupler {
     }
 }
 
-// A void assembly.
+/// A void assembly.
 #[derive(Clone, Copy)]
 pub struct Nothing;
 

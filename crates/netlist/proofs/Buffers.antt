@@ -1,4 +1,4 @@
--- Writing over a list, piece after piece. Assumes nothing.
+-- Writing over a list, piece after piece.
 use Rattle.std.proofs.Common.{◌≡◌, ℕ, ◌+◌, ◌≤◌, List, [], ◌++◌, length, take, drop, sym, ap, ◌∙◌, arith}
 use Rattle.std.proofs.lemmas.List.{append-nil, append_assoc, length-append, length-take-le, take-append-drop, drop-drop, take_at, drop_at}
 use Rattle.netlist.specs.Buffers.{written, over}

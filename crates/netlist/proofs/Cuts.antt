@@ -1,4 +1,4 @@
--- A table cut into pieces, and put together again. Assumes nothing.
+-- A table cut into pieces, and put together again.
 use Rattle.std.proofs.Common.{◌≡◌, ℕ, ◌+◌, ◌≤◌, List, [], ◌∷◌, ◌++◌, length, take, drop, sym, refl, ap, ◌∙◌, arith}
 use Rattle.std.proofs.lemmas.List.{length-take-le, length-drop, take-append-le, drop-append-le, take_all, nil_from_length}
 use Rattle.netlist.specs.Netlist.{term_count}

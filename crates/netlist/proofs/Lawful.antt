@@ -1,4 +1,4 @@
--- Laws that are cut from one table keep to their bounds if the table does. Assumes nothing.
+-- Laws that are cut from one table keep to their bounds if the table does.
 use Rattle.std.proofs.Common.{◌≡◌, ℕ, zero, suc, ◌<◌, true, List, [], ◌∷◌, length, get_or, take, drop, sym, subst, arith}
 use Rattle.std.proofs.lemmas.List.{length-take-le, length-drop}
 use Rattle.std.proofs.lemmas.Bool.{and_parts}

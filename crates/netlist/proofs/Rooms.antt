@@ -1,4 +1,4 @@
--- What the lines on room say. Assumes nothing.
+-- What the lines on room say.
 use Rattle.std.proofs.Common.{◌≡◌, ℕ, ◌+◌, ◌<◌, ◌≤◌, true, false, List, length, Some, None, sym, refl, ap, ◌∙◌}
 use Rattle.std.proofs.lemmas.Bool.{leb-false, ltb-false, lt-ltb, le-leb, lt-leb, le-ltb, cond-true, cond-false, not_from_false}
 use Rattle.netlist.specs.declared.domains.Domain.{Domain}

@@ -1,4 +1,4 @@
--- Two netlists that say the same in another order and with other numbers. Assumes nothing.
+-- Two netlists that say the same in another order and with other numbers.
 use Rattle.std.specs.Prelude.{◌≡◌, ℕ, List, [], ◌∷◌, ◌++◌, map}
 use Rattle.std.specs.List.{AllByRecursion, flat_map}
 use Rattle.std.specs.List.Sorted.{IsPermutation}

@@ -1,4 +1,4 @@
--- What a lent buffer holds after something is written into it. Assumes nothing.
+-- What a lent buffer holds after something is written into it.
 use Rattle.std.specs.Prelude.{ℕ, ◌+◌, List, ◌++◌, length, take, drop, Some, None, Option}
 use Rattle.netlist.specs.declared.refusals.Refusal.{Refusal}
 

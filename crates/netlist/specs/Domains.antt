@@ -1,4 +1,4 @@
--- The numbers of the domains. Assumes nothing.
+-- The numbers of the domains.
 use Rattle.std.specs.Prelude.{◌≡◌, ℕ, Bool, true, ◌||◌, nat_lt, Result, MatchResult}
 use Rattle.netlist.specs.declared.domains.Domain.{Domain}
 use Rattle.netlist.specs.declared.domains.NoDomain.{NoDomain}

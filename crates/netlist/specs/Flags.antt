@@ -1,4 +1,4 @@
--- A flag for each variable, up where a row has the variable. Assumes nothing.
+-- A flag for each variable, up where a row has the variable.
 use Rattle.std.specs.Prelude.{◌≡◌, ℕ, Bool, true, false, List, slice_index_or, slice_set}
 use Rattle.netlist.specs.declared.rows.Row.{Row}
 use Rattle.netlist.specs.Rows.{bit, uses, flow_of, across_of}

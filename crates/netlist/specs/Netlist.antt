@@ -1,4 +1,4 @@
--- A netlist: what a draft or a sheet says, apart from how it is stored. Assumes nothing.
+-- A netlist: what a draft or a sheet says, apart from how it is stored.
 use Rattle.std.specs.Prelude.{ℕ, ◌+◌, cond, List, [], ◌∷◌, ◌++◌, map, length, ◌==◌}
 use Rattle.netlist.specs.declared.rows.Row.{Row}
 use Rattle.netlist.specs.declared.terms.Order.{Order}

@@ -1,4 +1,4 @@
--- The numbers of the orders. Assumes nothing.
+-- The numbers of the orders.
 use Rattle.std.specs.Prelude.{◌≡◌, ℕ, ◌<◌, Result, MatchResult}
 use Rattle.netlist.specs.declared.terms.NoOrder.{NoOrder}
 use Rattle.netlist.specs.declared.terms.Order.{Order}

@@ -1,4 +1,4 @@
--- Lists that stand one after another in one table, each known by its length. Assumes nothing.
+-- Lists that stand one after another in one table, each known by its length.
 use Rattle.std.specs.Prelude.{ℕ, ◌+◌, List, [], ◌∷◌, take, drop}
 use Rattle.std.specs.List.{flat_map}
 

@@ -1,4 +1,4 @@
--- The number, the place and the cause of each refusal. Assumes nothing.
+-- The number, the place and the cause of each refusal.
 use Rattle.std.specs.Prelude.{ℕ, ◌+◌, List, ◌++◌, codes, decimal}
 use Rattle.netlist.specs.declared.refusals.Argument.{Argument}
 use Rattle.netlist.specs.declared.refusals.Argument.TheVariants.{Domain as DomainNumber, Flow, Across, First, Second, Node, Term as TermNumber, End}

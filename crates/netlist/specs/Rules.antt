@@ -1,5 +1,5 @@
 -- When a call is refused, what it answers, and the netlist after it. Each call has a table: tests in
--- their order, each with the refusal that it leads to. Assumes nothing.
+-- their order, each with the refusal that it leads to.
 use Rattle.std.specs.Prelude.{ℕ, ◌+◌, Bool, cond, not, ◌||◌, List, [], ◌∷◌, ◌++◌, length, ℤ, Some, None, Ok, Err, Option, Result, ◌==◌, nat_le, nat_lt, slice_index, unsigned_abs}
 use Rattle.netlist.specs.declared.refusals.Argument.TheVariants.{Domain as DomainNumber, Flow, Across, First, Second, Node, Term as TermNumber}
 use Rattle.netlist.specs.declared.refusals.Refusal.{Refusal}

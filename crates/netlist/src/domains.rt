@@ -1,4 +1,4 @@
-// The physical domain of a node. Callers name one by its number, from 1 to 4.
+//! The physical domain of a node. Callers name one by its number, from 1 to 4.
 ghost use Rattle.std.specs.Prelude.{◌≡◌};
 ghost use Rattle.netlist.specs.Domains.{domain_number, IsDomainOf};
 
@@ -10,7 +10,7 @@ pub enum Domain {
     Hydraulic,
 }
 
-// That no domain has a number.
+/// That no domain has a number.
 #[derive(Clone, Copy, PartialEq, Eq, Debug)]
 pub struct NoDomain;
 

@@ -1,4 +1,4 @@
-// The vocabulary of a netlist: domains, rows and terms, and the reasons for which a call is refused.
+//! The vocabulary of a netlist: domains, rows and terms, and the reasons for which a call is refused.
 #![tactic(auto)]
 
 pub mod domains;

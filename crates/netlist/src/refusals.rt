@@ -1,10 +1,10 @@
-// Why a call is refused. Users know a refusal by its number, its place and its cause.
+//! Why a call is refused. Users know a refusal by its number, its place and its cause.
 ghost use Rattle.std.specs.Prelude.{◌≡◌, Some};
 ghost use Rattle.netlist.specs.Refusals.{number, place, cause, table_number, argument_number, refusal_text};
 
 use std::fmt;
 
-// The table whose limit would be passed.
+/// The table whose limit would be passed.
 #[derive(Clone, Copy, PartialEq, Eq, Debug)]
 pub enum Table {
     Nodes,
@@ -14,7 +14,7 @@ pub enum Table {
     Terms,
 }
 
-// The argument at fault. A law's terms are counted from 1, and the ends of an assembly that is placed from 0.
+/// The argument at fault. A law's terms are counted from 1, and the ends of an assembly that is placed from 0.
 #[derive(Clone, Copy, PartialEq, Eq, Debug)]
 pub enum Argument {
     Domain,
@@ -24,39 +24,39 @@ pub enum Argument {
     Second,
     Node,
     Term { term: usize },
-    // The node that an end is placed at.
+    /// The node that an end is placed at.
     End { end: u8 },
 }
 
 #[derive(Clone, Copy, PartialEq, Eq, Debug)]
 pub enum Refusal {
-    // A limit of the draft would be passed.
+    /// A limit of the draft would be passed.
     Limit { table: Table },
-    // A node number is not drawn.
+    /// A node number is not drawn.
     NoNode { argument: Argument },
-    // A variable number is not drawn.
+    /// A variable number is not drawn.
     NoVariable { argument: Argument },
-    // A domain is not 1 to 4, or two nodes differ in domain, or a node and the end placed at it.
+    /// A domain is not 1 to 4, or two nodes differ in domain, or a node and the end placed at it.
     Domain { argument: Argument },
-    // A row's variable is taken, or its across is its flow.
+    /// A row's variable is taken, or its across is its flow.
     Taken { argument: Argument },
-    // A coefficient is 0 or too large. Terms are counted from 1.
+    /// A coefficient is 0 or too large. Terms are counted from 1.
     Coefficient { term: usize },
-    // A law has no terms, or more than eight.
+    /// A law has no terms, or more than eight.
     TermCount,
-    // The assembly is void.
+    /// The assembly is void.
     Void,
-    // A row of the plan would be refused, by a refusal of this number.
+    /// A row of the plan would be refused, by a refusal of this number.
     PlanRow { row: u16, cause: u32 },
-    // A law of the plan would be refused, likewise.
+    /// A law of the plan would be refused, likewise.
     PlanLaw { law: u16, cause: u32 },
-    // An order is neither 0 nor 1. Terms are counted from 1.
+    /// An order is neither 0 nor 1. Terms are counted from 1.
     Order { term: usize },
-    // A buffer for terms, spans, a line or the header is short.
+    /// A buffer for terms, spans, a line or the header is short.
     ShortBuffer,
-    // A number of values, rates or potentials is wrong.
+    /// A number of values, rates or potentials is wrong.
     WrongCount,
-    // There is no equation of this number.
+    /// There is no equation of this number.
     NoEquation,
 }
 

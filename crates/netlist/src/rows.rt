@@ -1,10 +1,10 @@
-// A row of a netlist. Nodes and variables go by their numbers.
+//! A row of a netlist. Nodes and variables go by their numbers.
 ghost use Rattle.std.specs.Prelude.{◌≡◌};
 ghost use Rattle.netlist.specs.Rows.{flow_of, across_of};
 
-// A branch leads from its first node to its second, an earth from its node to the one common earth
-// point. Each row has a flow variable and an across variable. What numbers them is a parameter, since a
-// plan's nodes and variables are numbered more narrowly than a sheet's.
+/// A branch leads from its first node to its second, an earth from its node to the one common earth
+/// point. Each row has a flow variable and an across variable. What numbers them is a parameter, since a
+/// plan's nodes and variables are numbered more narrowly than a sheet's.
 #[derive(Clone, Copy, PartialEq, Eq, Debug)]
 pub enum Row<N = usize> {
     Branch {

@@ -1,20 +1,20 @@
-// The terms that an equation adds up to zero.
+//! The terms that an equation adds up to zero.
 ghost use Rattle.std.specs.Prelude.{◌≡◌};
 ghost use Rattle.netlist.specs.declared.terms.Order.TheVariants.{Value};
 ghost use Rattle.netlist.specs.Orders.{IsOrderOf};
 
-// A law has one to so many terms.
+/// A law has one to so many terms.
 pub const MOST_TERMS: usize = 8;
 
-// Whether a term takes the variable itself or its rate of change. Callers name one by its number: 0 is
-// the value, 1 the rate.
+/// Whether a term takes the variable itself or its rate of change. Callers name one by its number: 0 is
+/// the value, 1 the rate.
 #[derive(Clone, Copy, PartialEq, Eq, Debug)]
 pub enum Order {
     Value,
     Rate,
 }
 
-// That no order has a number.
+/// That no order has a number.
 #[derive(Clone, Copy, PartialEq, Eq, Debug)]
 pub struct NoOrder;
 
@@ -32,7 +32,7 @@ impl TryFrom<u32> for Order {
     }
 }
 
-// The coefficient times the variable's value or rate.
+/// The coefficient times the variable's value or rate.
 #[derive(Clone, Copy, PartialEq, Eq, Debug)]
 pub struct Term {
     pub coefficient: i32,
@@ -41,7 +41,7 @@ pub struct Term {
 }
 
 impl Term {
-    // The coefficient times the variable's value.
+    /// The coefficient times the variable's value.
     pub fn value(coefficient: i32, variable: usize) -> Term
         ensures { result ≡ record { coefficient = coefficient; order = Value; variable = variable } }
     {
@@ -53,9 +53,9 @@ impl Term {
     }
 }
 
-// A term as a caller writes it, before it is judged: order 0 is the value, order 1 the rate, and any other
-// number may stand there and is refused. What numbers variables is a parameter, since a plan's variables
-// are numbered more narrowly than a sheet's.
+/// A term as a caller writes it, before it is judged: order 0 is the value, order 1 the rate, and any other
+/// number may stand there and is refused. What numbers variables is a parameter, since a plan's variables
+/// are numbered more narrowly than a sheet's.
 #[derive(Clone, Copy, PartialEq, Eq, Debug)]
 pub struct RawTerm<N = usize> {
     pub coefficient: i64,
@@ -64,7 +64,7 @@ pub struct RawTerm<N = usize> {
 }
 
 impl<N> RawTerm<N> {
-    // The coefficient times the variable's value.
+    /// The coefficient times the variable's value.
     pub fn value(coefficient: i64, variable: N) -> RawTerm<N>
         ensures { result ≡ record { coefficient = coefficient; order = 0; variable = variable } }
     {
@@ -75,7 +75,7 @@ impl<N> RawTerm<N> {
         }
     }
 
-    // The coefficient times the variable's rate of change.
+    /// The coefficient times the variable's rate of change.
     pub fn rate(coefficient: i64, variable: N) -> RawTerm<N>
         ensures { result ≡ record { coefficient = coefficient; order = 1; variable = variable } }
     {

@@ -1,4 +1,4 @@
--- The net flow out of a set of nodes, from the excesses of its nodes. Assumes nothing.
+-- The net flow out of a set of nodes, from the excesses of its nodes.
 use Rattle.std.proofs.Common.{◌≡◌, ℕ, zero, suc, ◌+◌, ◌<◌, Bool, true, false, cond, eqb, List, [], ◌∷◌, sym, refl, ap, ◌∙◌, ap₂, ⊎_elim, arith}
 use Rattle.std.proofs.lemmas.Bool.{eq-eqb, ne_eqb, cases_order, cond-true, cond-false}
 use Rattle.quantity.specs.Group.{Group}

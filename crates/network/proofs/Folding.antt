@@ -1,8 +1,8 @@
--- The check as a fold over the rows: potentials for every network whose closed walks add to zero. Assumes nothing.
+-- The check as a fold over the rows: potentials for every network whose closed walks add to zero.
 use Rattle.std.proofs.Common.{ℕ, zero, suc, ◌+◌, cond, eqb, sym, refl, subst, ⊎_elim, add-one, arith}
 use Rattle.std.proofs.lemmas.Bool.{eq-eqb, ne_eqb, cases_order, cond-true, cond-false}
 use Rattle.quantity.specs.Group.{Group}
-use Rattle.network.specs.Walks.{Network, Within, Balanced, BalanceHasPotentials}
+use Rattle.network.specs.Walks.{Network, Within, WalksClose, ClosingHasPotentials}
 use Rattle.network.specs.Settled.{Settled, Moved, gap_at}
 use Rattle.network.proofs.Reaching.{walk_more}
 use Rattle.network.proofs.Settling.{start, row_balances, tail_joins, head_joins, settled_solves}
@@ -25,7 +25,7 @@ module _ {G : Type 0} (𝓖 : Group G) where
     abbrev pub State : ℕ → Type 0
     State k = (label : ℕ → ℕ) × (p : ℕ → G) × Settled 𝓖 R n k label p
 
-    next : (k : ℕ) → Within R n (k + 1) → Balanced 𝓖 R (k + 1) → State k → State (k + 1)
+    next : (k : ℕ) → Within R n (k + 1) → WalksClose 𝓖 R (k + 1) → State k → State (k + 1)
     next k within balanced (label, p, settled) =
         let a = R.tail k in
         let b = R.head k in
@@ -38,14 +38,14 @@ module _ {G : Type 0} (𝓖 : Group G) where
         (λ above. (label_moved (label a) (label b) label, potential_moved (label a) gap label p, tail_joins 𝓖 R n k label p settled _ _ within above (moves n (label a) (label b) gap label p))))
         (cases_order (label a) (label b))
 
-    pub state : (k : ℕ) → Within R n k → Balanced 𝓖 R k → State k
+    pub state : (k : ℕ) → Within R n k → WalksClose 𝓖 R k → State k
     state zero within balanced = (λ v. v, λ _. 𝓖.zero, start 𝓖 R n (λ v. v) (λ _. 𝓖.zero) (λ v _. refl) (λ v _. refl))
     state (suc k) within balanced =
         let more = sym (add-one k) in
         let before = state k (λ j l. within j (omega arith)) (λ a s w. balanced a s (walk_more R k (suc k) a a s (omega arith) w)) in
-        subst State (add-one k) (next k (subst (Within R n) more within) (subst (Balanced 𝓖 R) more balanced) before)
+        subst State (add-one k) (next k (subst (Within R n) more within) (subst (WalksClose 𝓖 R) more balanced) before)
 
-  pub balance_has_potentials : BalanceHasPotentials 𝓖
-  balance_has_potentials R n m within balanced =
+  pub closing_has_potentials : ClosingHasPotentials 𝓖
+  closing_has_potentials R n m within balanced =
       let s = state R n m within balanced in
       (s.1, settled_solves 𝓖 R n m s.0 s.1 s.2 within)

@@ -1,4 +1,4 @@
--- Walks put together, turned round and followed. Assumes nothing.
+-- Walks put together, turned round and followed.
 use Rattle.std.proofs.Common.{◌≡◌, ℕ, ◌<◌, ◌≤◌, List, [], ◌∷◌, ◌++◌, sym, refl, ap, ◌∙◌, subst, ap₂, arith}
 use Rattle.quantity.specs.Group.{Group}
 use Rattle.network.specs.Walks.{Network, Within, Step, forward, backward, Walk, total}

@@ -1,11 +1,11 @@
--- One row more of the check, and what it comes to. Assumes nothing.
+-- One row more of the check, and what it comes to.
 use Rattle.std.proofs.Common.{◌≡◌, ℕ, ◌+◌, ◌<◌, ◌≤◌, Bool, true, false, [], Decides, MatchBool, sym, refl, ap, ◌∙◌, subst, ap₂, ⊎_elim, arith, below_more}
 use Rattle.std.proofs.lemmas.Bool.{cases_eq, false≢true}
 use Rattle.quantity.specs.Group.{Group, minus}
-use Rattle.network.specs.Walks.{Network, Within, Walk, Balanced, Unbalanced, Lowest, Solved}
+use Rattle.network.specs.Walks.{Network, Within, Walk, WalksClose, SomeWalkFails, Lowest, Solved}
 use Rattle.network.specs.Settled.{Reaches, Settled, Moved, gap_at}
 use Rattle.quantity.proofs.Groups.{minus_zero, sum_minus, minus_sum, minus_shift, negation_minus, negation_negation, swap, same_from_minus}
-use Rattle.network.proofs.Walking.{walk_total, potentials_balance}
+use Rattle.network.proofs.Walking.{walk_total, potentials_close_walks}
 use Rattle.network.proofs.Reaching.{walk_keeps, walk_within, reach_more, reach_then, reach_back, reach_over}
 
 module _ {G : Type 0} (𝓖 : Group G) (R : Network G) (n : ℕ) where
@@ -21,8 +21,8 @@ module _ {G : Type 0} (𝓖 : Group G) (R : Network G) (n : ℕ) where
       }
 
   module _ (k : ℕ) (label : ℕ → ℕ) (p : ℕ → G) (settled : Settled 𝓖 R n k label p) where
-    pub settled_balances : Balanced 𝓖 R k
-    settled_balances = potentials_balance 𝓖 R k p settled.satisfies
+    pub settled_balances : WalksClose 𝓖 R k
+    settled_balances = potentials_close_walks 𝓖 R k p settled.satisfies
 
     -- a lowest vertex is its own label
     lowest_own : (v : ℕ) → v < n → Lowest R k v → label v ≡ v
@@ -75,12 +75,12 @@ module _ {G : Type 0} (𝓖 : Group G) (R : Network G) (n : ℕ) where
         let r = reach_then 𝓖 R (k + 1) a b a _ _ (reach_over 𝓖 R (k + 1) k (omega arith)) (reach_then 𝓖 R (k + 1) b (label a) a _ _ home away) in
         (r.0, r.1, r.2 ∙ ap (𝓖.sum (R.reading k)) (sym (negation_minus 𝓖 (p a) (p b))))
 
-    pub row_decides : a < n → b < n → label a ≡ label b → (fits : Bool) → Decides fits (gap_at 𝓖 R p k ≡ 𝓖.zero) → MatchBool fits (Settled 𝓖 R n (k + 1) label p) (Unbalanced 𝓖 R (k + 1))
+    pub row_decides : a < n → b < n → label a ≡ label b → (fits : Bool) → Decides fits (gap_at 𝓖 R p k ≡ 𝓖.zero) → MatchBool fits (Settled 𝓖 R n (k + 1) label p) (SomeWalkFails 𝓖 R (k + 1))
     row_decides la lb same true decides = row_fits same (same_from_minus 𝓖 _ _ (decides.0 refl))
     row_decides la lb same false decides = let r = round la lb same in (a, r.0, r.1, λ none. false≢true (decides.1 (sym r.2 ∙ none)))
 
     -- where every closed walk adds to zero, a row within one part fits
-    pub row_balances : a < n → b < n → label a ≡ label b → Balanced 𝓖 R (k + 1) → Settled 𝓖 R n (k + 1) label p
+    pub row_balances : a < n → b < n → label a ≡ label b → WalksClose 𝓖 R (k + 1) → Settled 𝓖 R n (k + 1) label p
     row_balances la lb same balanced = let r = round la lb same in row_fits same (same_from_minus 𝓖 _ _ (sym r.2 ∙ balanced a r.0 r.1))
 
     module _ (label' : ℕ → ℕ) (p' : ℕ → G) where

@@ -1,7 +1,7 @@
--- What walks add to. Assumes nothing.
+-- What walks add to.
 use Rattle.std.proofs.Common.{[], ◌∷◌, sym, ap, ◌∙◌, ap₂}
 use Rattle.quantity.specs.Group.{Group, minus}
-use Rattle.network.specs.Walks.{forward, backward, WalksAddToDifferences, PotentialsBalance}
+use Rattle.network.specs.Walks.{forward, backward, WalksAddToDifferences, PotentialsCloseWalks}
 use Rattle.quantity.proofs.Groups.{minus_meet, minus_same, negation_minus}
 
 module _ {G : Type 0} (𝓖 : Group G) where
@@ -14,5 +14,5 @@ module _ {G : Type 0} (𝓖 : Group G) where
       ap₂ 𝓖.sum (ap 𝓖.negation (fits j w.0) ∙ negation_minus 𝓖 _ _) (walk_total R k p fits (R.tail j) b s w.2)
       ∙ minus_meet 𝓖 _ _ _ ∙ ap (λ v. minus 𝓖 (p v) (p b)) (sym w.1)
 
-  pub potentials_balance : PotentialsBalance 𝓖
-  potentials_balance R k p fits a s w = walk_total R k p fits a a s w ∙ 𝓖.inverse (p a)
+  pub potentials_close_walks : PotentialsCloseWalks 𝓖
+  potentials_close_walks R k p fits a s w = walk_total R k p fits a a s w ∙ 𝓖.inverse (p a)

@@ -1,4 +1,4 @@
--- What flows out of a set of nodes. Assumes nothing.
+-- What flows out of a set of nodes.
 use Rattle.std.specs.Prelude.{◌≡◌, ℕ, zero, suc, ◌<◌, Bool, cond, List, [], ◌∷◌, ◌==◌}
 use Rattle.quantity.specs.Group.{Group}
 use Rattle.netlist.specs.Rows.{flow_of}

@@ -1,4 +1,4 @@
--- What a law comes to. Assumes nothing.
+-- What a law comes to.
 use Rattle.std.specs.Prelude.{◌≡◌, ℕ, ◌<◌, List, [], ◌∷◌, length, pos, slice_index_or}
 use Rattle.quantity.specs.Group.{Group}
 use Rattle.netlist.specs.declared.terms.Order.{Order}

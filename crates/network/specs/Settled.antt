@@ -1,4 +1,4 @@
--- Potentials that are built up row by row: after k rows each of n vertices has a label and a potential. Assumes nothing.
+-- Potentials that are built up row by row: after k rows each of n vertices has a label and a potential.
 use Rattle.std.specs.Prelude.{◌≡◌, ℕ, ◌<◌, ◌≤◌, List, ◌≢◌}
 use Rattle.quantity.specs.Group.{Group, minus}
 use Rattle.network.specs.Walks.{Network, Step, Walk, total, Satisfies}

@@ -1,4 +1,4 @@
--- Walks along the rows of a network, and what the rows' readings add to. Assumes nothing.
+-- Walks along the rows of a network, and what the rows' readings add to.
 -- Vertex 0 is the common earth point, and vertex n + 1 is node n.
 use Rattle.std.specs.Prelude.{◌≡◌, ℕ, ◌+◌, ◌<◌, ◌≤◌, List, [], ◌∷◌, length, ◌≢◌, slice_index_or}
 use Rattle.quantity.specs.Group.{Group, minus}
@@ -61,12 +61,12 @@ total 𝓖 R (forward j ∷ s) = 𝓖.sum (R.reading j) (total 𝓖 R s)
 total 𝓖 R (backward j ∷ s) = 𝓖.sum (𝓖.negation (R.reading j)) (total 𝓖 R s)
 
 -- every closed walk along the rows below k adds to zero
-abbrev pub Balanced : {G : Type 0} → Group G → Network G → ℕ → Type 0
-Balanced 𝓖 R k = (a : ℕ) (s : List Step) → Walk R k a s a → total 𝓖 R s ≡ 𝓖.zero
+abbrev pub WalksClose : {G : Type 0} → Group G → Network G → ℕ → Type 0
+WalksClose 𝓖 R k = (a : ℕ) (s : List Step) → Walk R k a s a → total 𝓖 R s ≡ 𝓖.zero
 
 -- some closed walk along the rows below k does not add to zero
-abbrev pub Unbalanced : {G : Type 0} → Group G → Network G → ℕ → Type 0
-Unbalanced 𝓖 R k = (a : ℕ) × (s : List Step) × Walk R k a s a × (total 𝓖 R s ≢ 𝓖.zero)
+abbrev pub SomeWalkFails : {G : Type 0} → Group G → Network G → ℕ → Type 0
+SomeWalkFails 𝓖 R k = (a : ℕ) × (s : List Step) × Walk R k a s a × (total 𝓖 R s ≢ 𝓖.zero)
 
 -- the reading of each row below k is the difference of the potentials at its ends
 abbrev pub Satisfies : {G : Type 0} → Group G → Network G → ℕ → (ℕ → G) → Type 0
@@ -89,17 +89,17 @@ pub record Solved {G : Type 0} (𝓖 : Group G) (R : Network G) (n k : ℕ) (p :
 -- k is the lowest of the rows below m such that the rows up to it have a closed walk that does not add to zero
 pub record Refuted {G : Type 0} (𝓖 : Group G) (R : Network G) (m k : ℕ) : Type 0 where
   pub within : k < m
-  pub before : Balanced 𝓖 R k
-  pub here : Unbalanced 𝓖 R (k + 1)
+  pub before : WalksClose 𝓖 R k
+  pub here : SomeWalkFails 𝓖 R (k + 1)
 
 -- THEOREM: potentials that satisfy the rows make each walk add to the difference of its ends
 abbrev pub WalksAddToDifferences : {G : Type 0} → Group G → Type 0
 WalksAddToDifferences {G} 𝓖 = (R : Network G) (k : ℕ) (p : ℕ → G) → Satisfies 𝓖 R k p → (a b : ℕ) (s : List Step) → Walk R k a s b → total 𝓖 R s ≡ minus 𝓖 (p a) (p b)
 
 -- THEOREM: so every closed walk adds up to zero
-abbrev pub PotentialsBalance : {G : Type 0} → Group G → Type 0
-PotentialsBalance {G} 𝓖 = (R : Network G) (k : ℕ) (p : ℕ → G) → Satisfies 𝓖 R k p → Balanced 𝓖 R k
+abbrev pub PotentialsCloseWalks : {G : Type 0} → Group G → Type 0
+PotentialsCloseWalks {G} 𝓖 = (R : Network G) (k : ℕ) (p : ℕ → G) → Satisfies 𝓖 R k p → WalksClose 𝓖 R k
 
 -- THEOREM: and where every closed walk adds up to zero there are potentials
-abbrev pub BalanceHasPotentials : {G : Type 0} → Group G → Type 0
-BalanceHasPotentials {G} 𝓖 = (R : Network G) (n m : ℕ) → Within R n m → Balanced 𝓖 R m → (p : ℕ → G) × Solved 𝓖 R n m p
+abbrev pub ClosingHasPotentials : {G : Type 0} → Group G → Type 0
+ClosingHasPotentials {G} 𝓖 = (R : Network G) (n m : ℕ) → Within R n m → WalksClose 𝓖 R m → (p : ℕ → G) × Solved 𝓖 R n m p

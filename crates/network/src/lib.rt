@@ -1,34 +1,34 @@
-// The mathematics of readings, for every kind of quantity: walks along rows and potentials, and the net
-// flow of a set of nodes. Each theorem is the contract of a function, which computes nothing.
+//! The mathematics of readings, for every kind of quantity: walks along rows and potentials, and the net
+//! flow of a set of nodes. Each theorem is the contract of a function, which computes nothing.
 #![tactic(auto)]
 
 ghost use Rattle.network.specs.Flows.{FlowIsExcess, SetsKeepAsNodes};
-ghost use Rattle.network.specs.Walks.{WalksAddToDifferences, PotentialsBalance, BalanceHasPotentials};
+ghost use Rattle.network.specs.Walks.{WalksAddToDifferences, PotentialsCloseWalks, ClosingHasPotentials};
 
 use quantity::Quantity;
 
-// Potentials that satisfy the rows make each walk add up to the difference of its ends' potentials.
+/// Potentials that satisfy the rows make each walk add up to the difference of its ends' potentials.
 pub fn walks_add_to_differences<K: Quantity>()
     ensures { WalksAddToDifferences K.Quantity.group }
 {}
 
-// So every closed walk adds up to zero.
-pub fn potentials_balance<K: Quantity>()
-    ensures { PotentialsBalance K.Quantity.group }
+/// So every closed walk adds up to zero.
+pub fn potentials_close_walks<K: Quantity>()
+    ensures { PotentialsCloseWalks K.Quantity.group }
 {}
 
-// Where every closed walk adds up to zero there are potentials, and just one filling with the earth and the
-// lowest node of each part without an earth at zero.
-pub fn balance_has_potentials<K: Quantity>()
-    ensures { BalanceHasPotentials K.Quantity.group }
+/// Where every closed walk adds up to zero there are potentials, and just one filling with the earth and the
+/// lowest node of each part without an earth at zero.
+pub fn closing_has_potentials<K: Quantity>()
+    ensures { ClosingHasPotentials K.Quantity.group }
 {}
 
-// The net flow of a set of nodes is the sum of the excesses of its nodes.
+/// The net flow of a set of nodes is the sum of the excesses of its nodes.
 pub fn flow_is_excess<K: Quantity>()
     ensures { FlowIsExcess K.Quantity.group }
 {}
 
-// Every set of nodes has net flow zero exactly when every node has.
+/// Every set of nodes has net flow zero exactly when every node has.
 pub fn sets_keep_as_nodes<K: Quantity>()
     ensures { SetsKeepAsNodes K.Quantity.group }
 {}

@@ -1,4 +1,4 @@
--- A test of every item of a list, as std's chains have it. Assumes nothing.
+-- A test of every item of a list, as std's chains have it.
 use Rattle.std.proofs.Common.{◌≡◌, Bool, ◌&&◌, List, [], ◌∷◌, refl, ap}
 use Rattle.std.specs.List.{list_all}
 use Rattle.netlist.specs.Sound.{every}

@@ -1,4 +1,4 @@
--- What parts keep to that fill a table. Assumes nothing.
+-- What parts keep to that fill a table.
 use Rattle.std.proofs.Common.{◌≡◌, ℕ, zero, suc, ◌+◌, ◌<◌, ◌≤◌, true, eqb, List, [], ◌∷◌, ◌++◌, map, length, get_or, take, drop, sym, refl, ◌∙◌, arith}
 use Rattle.std.proofs.lemmas.List.{length-take, length-drop, drop-drop, drop_all, take-append-drop}
 use Rattle.std.proofs.lemmas.Bool.{and_parts, eqb-true}

@@ -1,4 +1,4 @@
--- A single keeps to the bounds of a plan. Assumes nothing.
+-- A single keeps to the bounds of a plan.
 use Rattle.std.proofs.Common.{◌≡◌, ◌≤◌, true, List, [], ◌∷◌, map, length, filter, refl, arith}
 use Rattle.std.proofs.lemmas.Bool.{cond_both}
 use Rattle.std.proofs.lemmas.List.Sums.{length-filter, count_by-le-length}

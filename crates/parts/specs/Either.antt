@@ -1,4 +1,4 @@
--- What one of two assemblies means: what the one that is held means. Assumes nothing.
+-- What one of two assemblies means: what the one that is held means.
 use Rattle.assembly.specs.Meaning.{Meaning}
 use Rattle.parts.specs.declared.either.Either.{Either}
 use Rattle.parts.specs.declared.either.Either.TheVariants.{One, Other}

@@ -1,4 +1,4 @@
--- What a `Stored` means: what the tables that it holds mean, and void if it holds none. Assumes nothing.
+-- What a `Stored` means: what the tables that it holds mean, and void if it holds none.
 use Rattle.std.specs.Prelude.{Some, None, Option}
 use Rattle.assembly.specs.Meaning.{Meaning, void, plan}
 use Rattle.parts.specs.declared.stored.SoundTables.{SoundTables}

@@ -1,4 +1,4 @@
--- Domains by their numbers. Assumes nothing.
+-- Domains by their numbers.
 use Rattle.std.specs.Prelude.{ℕ, cond, Option, ◌==◌}
 use Rattle.std.specs.Bool.{then_some}
 use Rattle.netlist.specs.declared.domains.Domain.{Domain}

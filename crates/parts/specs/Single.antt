@@ -1,4 +1,4 @@
--- What one branch with at most one law means. Assumes nothing.
+-- What one branch with at most one law means.
 use Rattle.std.specs.Prelude.{ℕ, Bool, true, cond, List, [], ◌∷◌, ℤ, pos, negsuc, filter, nat_lt}
 use Rattle.netlist.specs.Sound.{is_domain}
 use Rattle.netlist.specs.declared.rows.Row.TheVariants.{Branch}

@@ -1,4 +1,4 @@
--- What a plan in tables means. Assumes nothing.
+-- What a plan in tables means.
 use Rattle.std.specs.Prelude.{ℕ, ◌+◌, Bool, cond, ◌&&◌, List, [], ◌∷◌, map, length, take, drop, ◌==◌}
 use Rattle.netlist.specs.declared.spans.Span.{Span}
 use Rattle.netlist.specs.Sound.{every, is_domain, is_term_count}

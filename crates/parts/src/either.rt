@@ -1,13 +1,13 @@
-// One of two assemblies.
+//! One of two assemblies.
 ghost use Rattle.parts.specs.Either.{chosen};
 
 use assembly::Assembly;
 use assembly::plans::{PlanRow, PlanTerm, Size};
 use netlist::domains::Domain;
 
-// It means what it holds, so that one run can mix assemblies; one `Either` in another mixes three.
-// The kit's crate `either` has such a type too, but only the crate `assembly`
-// could make that an assembly, by the same five matches.
+/// It means what it holds, so that one run can mix assemblies; one `Either` in another mixes three.
+/// The kit's crate `either` has such a type too, but only the crate `assembly`
+/// could make that an assembly, by the same five matches.
 #[derive(Clone, Copy)]
 pub enum Either<A, B> {
     One(A),

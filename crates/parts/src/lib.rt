@@ -1,4 +1,4 @@
-// The assemblies that are not built of others, and the one that holds either of two.
+//! The assemblies that are not built of others, and the one that holds either of two.
 #![tactic(auto)]
 
 pub mod either;

@@ -1,4 +1,4 @@
-// One branch between the ends, with at most one law.
+//! One branch between the ends, with at most one law.
 ghost use Rattle.std.specs.Prelude.{◌≡◌, length, filter};
 ghost use Rattle.std.specs.List.{slice_get};
 ghost use Rattle.parts.specs.Single.{single, is_counted, offered};
@@ -8,9 +8,9 @@ use assembly::Assembly;
 use assembly::plans::{PlanRow, PlanTerm, Size};
 use netlist::domains::Domain;
 
-// The branch has flow variable 0 and across variable 1. Its law gives a coefficient to the value and to
-// the rate of each; a coefficient of zero is left out, and with four zeros there is no law. It is void
-// unless `domain` is the number of a domain, which both ends then have: a caller may write any number.
+/// The branch has flow variable 0 and across variable 1. Its law gives a coefficient to the value and to
+/// the rate of each; a coefficient of zero is left out, and with four zeros there is no law. It is void
+/// unless `domain` is the number of a domain, which both ends then have: a caller may write any number.
 #[derive(Clone, Copy)]
 pub struct Single {
     pub domain: u32,

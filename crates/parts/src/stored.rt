@@ -1,4 +1,4 @@
-// A plan in tables, checked once.
+//! A plan in tables, checked once.
 ghost use Rattle.std.specs.Prelude.{◌≡◌, true};
 ghost use Rattle.parts.specs.Tables.{is_sound};
 
@@ -16,8 +16,8 @@ struct SoundTables<'a> {
     ghost sound: { is_sound tables ≡ true },
 }
 
-// The sound tables of a plan, or none, and then it is void. A query looks at no more of the tables than it
-// tells of.
+/// The sound tables of a plan, or none, and then it is void. A query looks at no more of the tables than it
+/// tells of.
 #[derive(Clone, Copy)]
 pub struct Stored<'a> {
     plan: Option<SoundTables<'a>>,
@@ -32,8 +32,8 @@ impl<'a> Stored<'a> {
     ghost use Rattle.parts.specs.Tables.{stored};
     ghost use Rattle.parts.specs.Held.{held};
 
-    // Goes through the tables once. Unless they are void, the laws one after another are the table of
-    // terms: none is left out, and none is in two laws.
+    /// Goes through the tables once. Unless they are void, the laws one after another are the table of
+    /// terms: none is left out, and none is in two laws.
     #[tactic(auto, using(crate::proofs::Sound::whole))]
     pub fn new(tables: Tables<'a>) -> Self
         ensures value { held result ≡ stored tables.entry }

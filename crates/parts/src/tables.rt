@@ -1,4 +1,4 @@
-// A plan in tables that the caller lends, and when such tables are sound.
+//! A plan in tables that the caller lends, and when such tables are sound.
 ghost use Rattle.std.specs.Prelude.{◌≡◌, ◌≤◌, length};
 ghost use Rattle.netlist.specs.Sound.{every, is_domain};
 ghost use Rattle.parts.specs.Tables.{begins, fill, size_told, is_sound};
@@ -7,9 +7,9 @@ use super::numbers::{is_domain, is_term_count};
 use assembly::plans::{PlanRow, PlanTerm, Size};
 use netlist::spans::Span;
 
-// The domains of the two ends and of the inner nodes, by their numbers; how many variables there are; the
-// rows; and for each law the part of the table of terms that is its own. Anything may stand here: what is
-// not sound is void. A slice for each law would ask callers to lend more than plain tables of numbers.
+/// The domains of the two ends and of the inner nodes, by their numbers; how many variables there are; the
+/// rows; and for each law the part of the table of terms that is its own. Anything may stand here: what is
+/// not sound is void. A slice for each law would ask callers to lend more than plain tables of numbers.
 #[derive(Clone, Copy)]
 pub struct Tables<'a> {
     pub first: u32,

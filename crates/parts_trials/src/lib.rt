@@ -1,4 +1,4 @@
-// Trials of the assemblies of `parts` on small plans.
+//! Trials of the assemblies of `parts` on small plans.
 #![tactic(auto)]
 
 #[cfg(test)]

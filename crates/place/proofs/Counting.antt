@@ -1,4 +1,4 @@
--- How many terms laws have together. Assumes nothing.
+-- How many terms laws have together.
 use Rattle.std.proofs.Common.{◌≡◌, ℕ, zero, suc, ◌+◌, ◌≤◌, List, [], ◌∷◌, ◌++◌, map, length, take, refl, arith}
 use Rattle.netlist.specs.Netlist.{term_count}
 

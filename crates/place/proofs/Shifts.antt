@@ -1,4 +1,4 @@
--- Numbers that are all counted on by the same are compared as before. Assumes nothing.
+-- Numbers that are all counted on by the same are compared as before.
 use Rattle.std.proofs.Common.{◌≡◌, ℕ, ◌+◌, sym, ap, ◌∙◌, ⊎_elim, arith}
 use Rattle.std.specs.Prelude.{◌==◌, nat_le}
 use Rattle.std.proofs.lemmas.Bool.{le-leb, lt-leb, eq-eqb, ne_eqb, cases_lt, cases_eq}

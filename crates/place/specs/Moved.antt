@@ -1,4 +1,4 @@
--- What a plan adds to a netlist where it is placed. Assumes nothing.
+-- What a plan adds to a netlist where it is placed.
 use Rattle.std.specs.Prelude.{ℕ, ◌+◌, ◌-◌, cond, List, map, length, nat_lt, slice_index}
 use Rattle.netlist.specs.declared.rows.Row.{Row}
 use Rattle.netlist.specs.declared.rows.Row.TheVariants.{Branch, Earth}

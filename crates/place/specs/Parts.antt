@@ -1,4 +1,4 @@
--- What is asked of an assembly that is placed. Assumes nothing.
+-- What is asked of an assembly that is placed.
 use Rattle.std.specs.Prelude.{ℕ, not, List, [], ◌∷◌, Some, Option, ◌==◌}
 use Rattle.netlist.specs.declared.domains.Domain.{Domain}
 use Rattle.netlist.specs.declared.refusals.Argument.{Argument}

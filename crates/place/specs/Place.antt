@@ -1,4 +1,4 @@
--- When an assembly is not placed, what placing it answers, and the netlist after it. Assumes nothing.
+-- When an assembly is not placed, what placing it answers, and the netlist after it.
 use Rattle.std.specs.Prelude.{ℕ, ◌+◌, not, List, [], ◌∷◌, ◌++◌, length, Some, Option, Result, ◌==◌}
 use Rattle.std.specs.Option.{option_or}
 use Rattle.netlist.specs.declared.domains.Domain.{Domain}

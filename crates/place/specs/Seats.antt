@@ -1,4 +1,4 @@
--- Where a plan's things go. Assumes nothing.
+-- Where a plan's things go.
 use Rattle.std.specs.Prelude.{◌≡◌, ℕ, List, [], ◌∷◌, length}
 use Rattle.netlist.specs.declared.rows.Row.{Row}
 use Rattle.netlist.specs.Netlist.{Netlist}

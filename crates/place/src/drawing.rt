@@ -1,4 +1,4 @@
-// A plan that has passed is drawn, thing after thing. No call of these is refused.
+//! A plan that has passed is drawn, thing after thing. No call of these is refused.
 ghost use Rattle.std.specs.Prelude.{◌≡◌, ◌+◌, ◌≤◌, length, map, None, Some};
 ghost use Rattle.netlist.specs.Domains.{domain_number};
 ghost use Rattle.netlist.specs.Netlist.{term_count, with_nodes, with_rows, with_laws};

@@ -1,4 +1,4 @@
-// The nodes that an assembly's ends are placed at.
+//! The nodes that an assembly's ends are placed at.
 ghost use Rattle.std.specs.Prelude.{◌≡◌, [], ◌∷◌, Some};
 ghost use Rattle.netlist.specs.Domains.{domain_number};
 ghost use Rattle.netlist.specs.Rules.{first_of};

@@ -1,4 +1,4 @@
-// The call that draws a whole assembly on a draft.
+//! The call that draws a whole assembly on a draft.
 #![tactic(auto)]
 
 ghost use Rattle.std.specs.Prelude.{◌≡◌, [], ◌∷◌};
@@ -17,9 +17,9 @@ use plan_judging::judge_plan;
 use seats::Seat;
 use sheet::{Counts, Draft};
 
-// Places an assembly with its ends at two nodes, which may be one: draws its inner nodes and its variables,
-// and then its rows and laws. Answers how much was drawn before, so that what is new can be found. All of
-// it is drawn, or nothing.
+/// Places an assembly with its ends at two nodes, which may be one: draws its inner nodes and its variables,
+/// and then its rows and laws. Answers how much was drawn before, so that what is new can be found. All of
+/// it is drawn, or nothing.
 pub fn place<A: Assembly>(
     draft: &mut Draft,
     part: &A,

@@ -1,4 +1,4 @@
-// Where a plan's things go on a draft.
+//! Where a plan's things go on a draft.
 ghost use Rattle.std.specs.Prelude.{◌≡◌, ◌+◌};
 ghost use Rattle.place.specs.Moved.{moved_node};
 ghost use Rattle.place.specs.Seats.{given, seated_row};
@@ -6,8 +6,8 @@ ghost use Rattle.place.specs.Seats.{given, seated_row};
 use assembly::plans::PlanRow;
 use netlist::rows::Row;
 
-// The nodes that the two ends become, and how many nodes and variables there are before. Sixteen bits hold
-// these counts, and then no sum can overflow.
+/// The nodes that the two ends become, and how many nodes and variables there are before. Sixteen bits hold
+/// these counts, and then no sum can overflow.
 #[derive(Clone, Copy)]
 pub struct Seat {
     pub first: usize,

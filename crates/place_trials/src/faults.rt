@@ -1,4 +1,4 @@
-// Why an assembly is not placed: the first of its faults is told.
+//! Why an assembly is not placed: the first of its faults is told.
 use assembly::plans::{PlanRow, PlanTerm};
 use netlist::refusals::{Refusal, Table};
 use netlist::spans::Span;

@@ -1,4 +1,4 @@
-// Trials of placing assemblies on drafts.
+//! Trials of placing assemblies on drafts.
 #![tactic(auto)]
 
 #[cfg(test)]

@@ -1,4 +1,4 @@
-// What a placed assembly draws.
+//! What a placed assembly draws.
 use assembly::Assembly;
 use assembly::plans::Size;
 use equation::lines::line;

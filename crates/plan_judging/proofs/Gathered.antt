@@ -1,4 +1,4 @@
--- A law that is gathered, and how many terms there are. Assumes nothing.
+-- A law that is gathered, and how many terms there are.
 use Rattle.std.proofs.Common.{◌≡◌, ℕ, ◌+◌, ◌≤◌, true, List, [], ◌∷◌, ◌++◌, length, get_or, take, Some, ⊎_elim, sym, refl, ap, ◌∙◌, arith}
 use Rattle.std.specs.List.{slice_get}
 use Rattle.std.proofs.lemmas.Bool.{not-true, ltb-false, or_parts, cases_lt}

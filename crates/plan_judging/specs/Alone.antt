@@ -1,4 +1,4 @@
--- What is wrong with a plan by itself. Assumes nothing.
+-- What is wrong with a plan by itself.
 use Rattle.std.specs.Prelude.{ℕ, ◌+◌, List, [], ◌∷◌, ◌++◌, map, None, Some, Option}
 use Rattle.std.specs.Option.{option_map, option_or}
 use Rattle.netlist.specs.declared.refusals.Refusal.{Refusal}

@@ -1,4 +1,4 @@
--- The terms of a plan's law, with the variables counted on. Assumes nothing.
+-- The terms of a plan's law, with the variables counted on.
 use Rattle.std.specs.Prelude.{ℕ, ◌+◌, List, map}
 use Rattle.netlist.specs.declared.terms.RawTerm.{RawTerm}
 

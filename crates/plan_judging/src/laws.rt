@@ -1,4 +1,4 @@
-// The laws of a plan are judged in turn.
+//! The laws of a plan are judged in turn.
 ghost use Rattle.std.specs.Prelude.{◌≡◌, ◌≤◌, length};
 ghost use Rattle.netlist.specs.Netlist.{term_count};
 ghost use Rattle.judging.specs.Judging.{Accepts};

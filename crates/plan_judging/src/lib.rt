@@ -1,4 +1,4 @@
-// What is wrong with a plan by itself, and the laws of a plan, term by term.
+//! What is wrong with a plan by itself, and the laws of a plan, term by term.
 #![tactic(auto)]
 
 ghost use Rattle.std.specs.Prelude.{◌≡◌};
@@ -16,9 +16,9 @@ use assembly::Assembly;
 use assembly::plans::Size;
 use netlist::refusals::Refusal;
 
-// Refuses a void assembly; else for the first row, or else the first law, that would be refused on the plan's
-// own nodes and variables with the rows before it. Want of room does not count. Where nothing is refused, it
-// answers how many terms the laws have together.
+/// Refuses a void assembly; else for the first row, or else the first law, that would be refused on the plan's
+/// own nodes and variables with the rows before it. Want of room does not count. Where nothing is refused, it
+/// answers how many terms the laws have together.
 pub fn judge_plan<A: Assembly>(part: &A) -> Result<usize, Refusal>
     ensures { Accepts (judge_assembly (A.Assembly.meaning part.now)) (λ terms. terms ≡ term_count (laws_of (A.Assembly.meaning part.now))) result }
 {

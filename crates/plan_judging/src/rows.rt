@@ -1,4 +1,4 @@
-// The rows of a plan are judged in turn.
+//! The rows of a plan are judged in turn.
 ghost use Rattle.std.specs.Prelude.{◌≡◌, ◌≤◌, [], length, map};
 ghost use Rattle.netlist.specs.Domains.{domain_number};
 ghost use Rattle.judging.specs.Judging.{Tells};

@@ -1,4 +1,4 @@
-// A plan's own nodes and variables, on which its rows are judged.
+//! A plan's own nodes and variables, on which its rows are judged.
 ghost use Rattle.std.specs.Prelude.{length, map};
 ghost use Rattle.netlist.specs.Domains.{domain_number};
 ghost use Rattle.netlist.specs.Flags.{flag_up};

@@ -1,9 +1,9 @@
-// The terms of one law of a plan, gathered.
+//! The terms of one law of a plan, gathered.
 use assembly::Assembly;
 use netlist::terms::{MOST_TERMS, RawTerm};
 use std::marker::Model;
 
-// At most eight terms, in the first places of an array, which needs no memory.
+/// At most eight terms, in the first places of an array, which needs no memory.
 #[derive(Drop)]
 pub struct LawTerms {
     terms: [RawTerm; MOST_TERMS],
@@ -27,7 +27,7 @@ impl LawTerms {
     ghost use Rattle.assembly.specs.Meaning.{terms_of};
     ghost use Rattle.plan_judging.specs.Terms.{law_from};
 
-    // The first eight terms of law `k`, its variables counted from `from` on. A plan's law has no more.
+    /// The first eight terms of law `k`, its variables counted from `from` on. A plan's law has no more.
     pub fn of<A: Assembly>(part: &A, k: usize, from: u16) -> LawTerms
         ensures { result ≡ take 8 (law_from from (terms_of (A.Assembly.meaning part.now) k)) }
     {
@@ -48,7 +48,7 @@ impl LawTerms {
         }
     }
 
-    // The terms in their order.
+    /// The terms in their order.
     pub fn as_slice(&self) -> &[RawTerm]
         ensures { result.now ≡ self.now }
     {

@@ -1,4 +1,4 @@
--- Each line of a sheet has room in a buffer of 16,384 bytes. Assumes nothing.
+-- Each line of a sheet has room in a buffer of 16,384 bytes.
 use Rattle.std.proofs.Common.{◌≡◌, ℕ, zero, suc, ◌+◌, ◌^◌, ◌-◌, ◌<◌, ◌≤◌, Bool, true, false, cond, ◌&&◌, ◌==◌, ◌⊎◌, inl, inr, ⊎_elim, nat_lt, slice_index, List, [], ◌∷◌, ◌++◌, length, get_or, None, Some, refl, sym, ap, subst, arith, eqb, unsigned_abs}
 use Rattle.std.specs.Option.{option_to_list}
 use Rattle.std.proofs.lemmas.Fmt.{length-decimal-le}

@@ -1,4 +1,4 @@
--- What stands at the front of a buffer once something is printed into it. Assumes nothing.
+-- What stands at the front of a buffer once something is printed into it.
 use Rattle.std.proofs.Common.{◌≡◌, ℕ, ◌^◌, ◌<◌, ◌≤◌, List, ◌++◌, length, take, drop, Ok, None, Result, Option, ap, ◌∙◌, codes, decimal, arith}
 use Rattle.std.proofs.Math.Seq.{take-append_seam}
 use Rattle.std.proofs.lemmas.Bool.Decides.{nat_tests}

@@ -1,4 +1,4 @@
--- What a program prints of a sheet text. Assumes nothing.
+-- What a program prints of a sheet text.
 use Rattle.std.specs.Prelude.{◌≡◌, ◌++◌, length, Ok, Err}
 use Rattle.std.specs.List.{flat_map}
 use Rattle.netlist.specs.Netlist.{Netlist, empty}

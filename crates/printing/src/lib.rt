@@ -1,4 +1,4 @@
-// What a program prints of a sheet text: the equations that it stands for, or its fault.
+//! What a program prints of a sheet text: the equations that it stands for, or its fault.
 #![tactic(auto)]
 
 mod sheets;

@@ -1,4 +1,4 @@
-// The equations of a sheet are printed, a line each, under their header.
+//! The equations of a sheet are printed, a line each, under their header.
 ghost use Rattle.std.specs.Prelude.{◌≡◌, ◌<◌, ◌≤◌, ◌++◌, length, OnOk};
 ghost use Rattle.spelling.specs.Headers.{header_text};
 ghost use Rattle.equation.specs.Equations.{equations_of};
@@ -30,7 +30,7 @@ fn put_line(sheet: &Sheet, k: usize, buffer: &mut [u8], out: &mut Vec<u8>) -> Re
     out.extend_from_slice(&buffer[..end])
 }
 
-// Prints the sheet behind what has been printed.
+/// Prints the sheet behind what has been printed.
 pub fn print_sheet(sheet: &Sheet, out: &mut Vec<u8>) -> Result<(), AllocError>
     ensures { OnOk result (out.new.items ≡ out.old.items ++ sheet_text sheet.now) }
 {

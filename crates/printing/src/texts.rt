@@ -1,4 +1,4 @@
-// What is printed of a text: the equations of the sheet that it draws, or its fault.
+//! What is printed of a text: the equations of the sheet that it draws, or its fault.
 ghost use Rattle.std.specs.Prelude.{◌≡◌, ◌++◌, IfOk, OnOk};
 ghost use Rattle.netlist.specs.Netlist.{Netlist, empty};
 ghost use Rattle.sheet_reader.specs.Faults.{fault_line};
@@ -10,7 +10,7 @@ use sheet::Draft;
 use sheet_reader::{FAULT_BYTES, TextFault, read, write_fault};
 use std::alloc::{AllocError, Global};
 
-// Prints the fault behind what has been printed.
+/// Prints the fault behind what has been printed.
 pub fn print_fault(fault: TextFault, out: &mut Vec<u8>) -> Result<(), AllocError>
     ensures { OnOk result (out.new.items ≡ out.old.items ++ fault_line fault) }
 {
@@ -26,8 +26,8 @@ fn print_draft(draft: Draft, out: &mut Vec<u8>) -> Result<(), AllocError>
     print_sheet(&draft.issue(), out)
 }
 
-// Reads the text, prints what it comes to, and answers whether it was read to its end. It fails for want of
-// memory alone.
+/// Reads the text, prints what it comes to, and answers whether it was read to its end. It fails for want of
+/// memory alone.
 pub fn print_text(
     heap: Global,
     text: &[u8],

@@ -1,4 +1,4 @@
--- What the laws of a group give for sums, negations and differences. Assumes nothing.
+-- What the laws of a group give for sums, negations and differences.
 use Rattle.std.proofs.Common.{◌≡◌, sym, ap, ◌∙◌, ap₂}
 use Rattle.quantity.specs.Group.{Group, minus}
 use Rattle.quantity.specs.Derived.{Negations}

@@ -1,4 +1,4 @@
--- A map that takes sums to sums takes every operation along. Assumes nothing.
+-- A map that takes sums to sums takes every operation along.
 use Rattle.std.proofs.Common.{◌≡◌, List, [], ◌∷◌, map, ℤ, sym, ap, ◌∙◌}
 use Rattle.quantity.specs.Group.{Group}
 use Rattle.quantity.specs.Maps.{Respects}

@@ -1,4 +1,4 @@
--- What the laws of a group give for multiples. Assumes nothing.
+-- What the laws of a group give for multiples.
 use Rattle.std.proofs.Common.{◌≡◌, ℤ, pos, negsuc, ◌+ℤ◌, ◌*ℤ◌, neg_ℤ, sym, refl, ap, ◌∙◌, ap₂}
 use lib.IntN.{ℤ_ind, -ℤ-+ℤ_cancel, +ℤ_assoc, +ℤ_idr}
 use Rattle.quantity.specs.Group.{Group, minus}

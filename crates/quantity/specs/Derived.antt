@@ -1,4 +1,4 @@
--- What holds of negations and of multiples in every group. Assumes nothing.
+-- What holds of negations and of multiples in every group.
 use Rattle.std.specs.Prelude.{◌≡◌, ℤ, pos, negsuc, ◌+ℤ◌, ◌*ℤ◌}
 use Rattle.quantity.specs.Group.{Group}
 

@@ -1,4 +1,4 @@
--- What a kind of quantity is: an abelian group, with its multiples by the integers. Assumes nothing.
+-- What a kind of quantity is: an abelian group, with its multiples by the integers.
 use Rattle.std.specs.Prelude.{◌≡◌, ℤ, pos, ◌+ℤ◌}
 
 -- The operations with their laws: whoever names a group has proved them.

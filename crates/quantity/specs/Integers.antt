@@ -1,4 +1,4 @@
--- The unbounded integers are a group. Assumes nothing.
+-- The unbounded integers are a group.
 use Rattle.std.proofs.Common.{ap, ◌∙◌}
 use Rattle.std.specs.Prelude.{ℤ, pos, ◌+ℤ◌, ◌*ℤ◌, neg_ℤ}
 use Rattle.std.proofs.Math.IntN.{+ℤ_assoc, +ℤ_comm, +ℤ_idl, +ℤ_invr, +ℤ_one, zero-*ℤ, suc_ℤ-*ℤ}

@@ -1,4 +1,4 @@
--- Maps between groups. Assumes nothing.
+-- Maps between groups.
 use Rattle.std.specs.Prelude.{◌≡◌, List, map, ℤ}
 use Rattle.quantity.specs.Group.{Group}
 use Rattle.quantity.specs.Totals.{total}

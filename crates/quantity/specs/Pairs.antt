@@ -1,4 +1,4 @@
--- The pairs of two groups are a group, part by part. Assumes nothing.
+-- The pairs of two groups are a group, part by part.
 use Rattle.std.specs.Prelude.{◌≡◌}
 use Rattle.std.proofs.Common.{sym, ap, ◌∙◌}
 use Rattle.quantity.specs.Group.{Group}

@@ -1,4 +1,4 @@
--- The phasors are a group, as pairs of whole numbers. Assumes nothing.
+-- The phasors are a group, as pairs of whole numbers.
 use Rattle.std.specs.Prelude.{ℤ, refl}
 use Rattle.quantity.specs.Group.{Group}
 use Rattle.quantity.specs.Integers.{integers}

@@ -1,4 +1,4 @@
--- Integers that are held wrapped are a group. Assumes nothing.
+-- Integers that are held wrapped are a group.
 use Rattle.std.specs.Prelude.{◌≡◌, ℤ, pos, ◌+ℤ◌, ◌*ℤ◌, neg_ℤ}
 use Rattle.std.proofs.Common.{sym, ap, ◌∙◌}
 use Rattle.std.proofs.Math.IntN.{+ℤ_comm}

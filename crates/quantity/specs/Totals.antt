@@ -1,4 +1,4 @@
--- The sum of a list. Assumes nothing.
+-- The sum of a list.
 use Rattle.std.specs.Prelude.{◌≡◌, List, [], ◌∷◌, ◌++◌, map, ℤ}
 use Rattle.std.specs.List.Sorted.{IsPermutation}
 use Rattle.quantity.specs.Group.{Group}

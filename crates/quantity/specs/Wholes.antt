@@ -1,4 +1,4 @@
--- The whole numbers modulo 2^64, held signed, are a group. Assumes nothing.
+-- The whole numbers modulo 2^64, held signed, are a group.
 use Rattle.std.specs.Prelude.{◌≡◌, ◌^◌, ◌<◌, List, map, ℤ, pos, ◌+ℤ◌, ◌*ℤ◌, FitsSigned}
 use mathlib.Core.HLevel.{is_prop→PathP}
 use Rattle.std.proofs.Math.Bridge.{le_prop}

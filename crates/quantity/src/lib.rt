@@ -1,4 +1,4 @@
-// Kinds of exact quantity, and what holds of every kind.
+//! Kinds of exact quantity, and what holds of every kind.
 #![tactic(auto)]
 
 mod differences;

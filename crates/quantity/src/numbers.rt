@@ -1,8 +1,8 @@
-// What quantities are held in.
+//! What quantities are held in.
 ghost use Rattle.std.specs.Prelude.{◌^◌, ◌<◌};
 ghost use Rattle.std.specs.Int.Signed.{mag};
 
-// A whole number modulo 2^64, held signed.
+/// A whole number modulo 2^64, held signed.
 #[derive(Clone, Copy, PartialEq, Eq, Debug)]
 pub struct Whole {
     pub value: i64,
@@ -10,7 +10,7 @@ pub struct Whole {
     ghost held: { mag value < 2 ^ 63 },
 }
 
-// A quantity in two parts.
+/// A quantity in two parts.
 #[derive(Clone, Copy, PartialEq, Eq, Debug)]
 pub struct Phasor {
     pub real: Whole,

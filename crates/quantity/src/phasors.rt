@@ -1,4 +1,4 @@
-// Phasors are a kind of quantity, part by part.
+//! Phasors are a kind of quantity, part by part.
 ghost use Rattle.std.specs.Prelude.{◌≡◌};
 ghost use Rattle.quantity.specs.Maps.{Respects};
 ghost use Rattle.quantity.specs.Phasors.{phasor, phasors, points};
@@ -7,7 +7,7 @@ use super::kind::Quantity;
 use super::numbers::{Phasor, Whole};
 
 impl Phasor {
-    // The phasor of two integers, as `Whole::new` in each part.
+    /// The phasor of two integers, as `Whole::new` in each part.
     pub fn new(real: i64, imaginary: i64) -> Phasor
         ensures parts { (result.real.value ≡ real) × (result.imaginary.value ≡ imaginary) }
         ensures image { result ≡ phasor (record { real = real; imaginary = imaginary }) }

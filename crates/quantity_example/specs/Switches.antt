@@ -1,4 +1,4 @@
--- The changes of a two-way switch are a group. Assumes nothing.
+-- The changes of a two-way switch are a group.
 use Rattle.std.specs.Prelude.{◌≡◌, refl, Bool, true, false, not, ◌&&◌, ℕ, zero, suc, ◌+◌, ◌%◌, eqb, ℤ, pos, ◌+ℤ◌, nat_abs}
 use Rattle.std.proofs.Common.{sym, ap, ◌∙◌, arith}
 use borrow.Author.Differences.{sum_is_lem, abs_is}

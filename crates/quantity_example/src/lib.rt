@@ -1,11 +1,11 @@
-// A third kind of quantity, as an example: a change of a two-way switch.
+//! A third kind of quantity, as an example: a change of a two-way switch.
 #![tactic(auto)]
 
 ghost use Rattle.quantity_example.specs.Switches.{switches};
 
 use quantity::Quantity;
 
-// Whether the switch is turned over. The sum of two is one after the other: to turn twice is to leave it.
+/// Whether the switch is turned over. The sum of two is one after the other: to turn twice is to leave it.
 #[derive(Clone, Copy, PartialEq, Eq, Debug)]
 pub struct Switch {
     pub turned: bool,

@@ -1,4 +1,4 @@
-// Trials of the kinds of quantity: where numbers wrap, part by part, and in generic code.
+//! Trials of the kinds of quantity: where numbers wrap, part by part, and in generic code.
 #![tactic(auto)]
 
 #[cfg(test)]

@@ -1,4 +1,4 @@
-// Texts with a fault: the line, the column, the number, the place and the cause that are told.
+//! Texts with a fault: the line, the column, the number, the place and the cause that are told.
 use printing::print_text;
 use std::alloc::{AllocError, Global};
 use std::test::Fail;

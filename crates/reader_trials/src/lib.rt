@@ -1,4 +1,4 @@
-// Trials of the reader: tables of sheet texts, with what is printed of each, and what is drawn.
+//! Trials of the reader: tables of sheet texts, with what is printed of each, and what is drawn.
 #![tactic(auto)]
 
 #[cfg(test)]

@@ -1,4 +1,4 @@
-// Texts of the most bytes, and of one byte more.
+//! Texts of the most bytes, and of one byte more.
 use printing::print_text;
 use sheet::Draft;
 use sheet_reader::{TextFault, read};

@@ -1,4 +1,4 @@
-// Texts that are read to their end, and what is printed of them; and what a fault leaves drawn.
+//! Texts that are read to their end, and what is printed of them; and what a fault leaves drawn.
 use netlist::refusals::{Argument, Refusal};
 use printing::print_text;
 use sheet::{Counts, Draft};

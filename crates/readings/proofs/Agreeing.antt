@@ -1,4 +1,4 @@
--- The listed equations hold with some potentials exactly if the readings balance. Assumes nothing.
+-- The listed equations hold with some potentials exactly if the readings balance.
 use Rattle.std.proofs.Common.{◌≡◌, ℕ, zero, suc, ◌+◌, ◌-◌, ◌<◌, List, length, sym, ap, ◌∙◌, ap₂, ⊎_elim, add-one, arith}
 use Rattle.std.proofs.lemmas.Bool.{cases_lt}
 use Rattle.quantity.specs.Group.{Group, minus}
@@ -8,13 +8,13 @@ use Rattle.netlist.specs.Sound.{Sound}
 use Rattle.equation.specs.Equations.{equations_of}
 use Rattle.equation.proofs.Counting.{equations_are}
 use Rattle.equation.proofs.Finding.{law_at, node_at, row_at as row_equation_at}
-use Rattle.network.specs.Balances.{Balances}
+use Rattle.network.specs.ReadingsAgree.{ReadingsAgree}
 use Rattle.network.specs.Flows.{NodesKeep}
 use Rattle.network.specs.Laws.{LawsHold}
 use Rattle.network.specs.Walks.{Network, Satisfies, row_at, no_row, network_of}
 use Rattle.network.proofs.Flowing.{sets_keep_as_nodes}
-use Rattle.network.proofs.Folding.{balance_has_potentials}
-use Rattle.network.proofs.Walking.{potentials_balance}
+use Rattle.network.proofs.Folding.{closing_has_potentials}
+use Rattle.network.proofs.Walking.{potentials_close_walks}
 use Rattle.readings.specs.Readings.{equation_sum, comes_to, EquationsHold}
 use Rattle.readings.specs.Agreement.{with_earth, difference_over, across_reading, EquationParts, EquationsByPart, EquationsAgree}
 use Rattle.readings.proofs.Drawing.{sound_drawn, flow_drawn, across_drawn}
@@ -54,14 +54,14 @@ module _ {G : Type 0} (𝓖 : Group G) where
         );
       }
 
-      balances_from : EquationsHold 𝓖 b values rates p → Balances 𝓖 b values rates
+      balances_from : EquationsHold 𝓖 b values rates p → ReadingsAgree 𝓖 b values rates
       balances_from holds =
           let parts = equation_parts in
           record {
             laws = λ k l. sym (parts.law k l) ∙ holds k (omega (arith, count));
             sets = (sets_keep_as_nodes 𝓖 b.rows values (length b.domains) (sound_drawn b sound)).1
                 (λ u l. sym (parts.node u l) ∙ holds (length b.laws + u) (omega (arith, count)));
-            walks = potentials_balance 𝓖 Rows (length b.rows) (with_earth 𝓖 p)
+            walks = potentials_close_walks 𝓖 Rows (length b.rows) (with_earth 𝓖 p)
                 (λ j l. (parts.row_holds j l).0 (holds (length b.laws + (length b.domains + j)) (omega (arith, count))));
           }
 
@@ -83,10 +83,10 @@ module _ {G : Type 0} (𝓖 : Group G) where
           (cases_lt (i - length b.laws) (length b.domains)))
           (cases_lt i (length b.laws))
 
-    some_hold : Balances 𝓖 b values rates → (p : ℕ → G) × EquationsHold 𝓖 b values rates p
+    some_hold : ReadingsAgree 𝓖 b values rates → (p : ℕ → G) × EquationsHold 𝓖 b values rates p
     some_hold balances =
         let drawn = sound_drawn b sound in
-        let found = balance_has_potentials 𝓖 Rows (length b.domains + 1) (length b.rows) drawn balances.walks in
+        let found = closing_has_potentials 𝓖 Rows (length b.domains + 1) (length b.rows) drawn balances.walks in
         let q = found.0 in
         let earth : q 0 ≡ 𝓖.zero = found.1.grounded 0 (omega arith) (λ u s w. omega arith) in (
           λ u. q (u + 1),

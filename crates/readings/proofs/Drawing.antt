@@ -1,4 +1,4 @@
--- What the rows of a sound netlist name is drawn, nodes and variables. Assumes nothing.
+-- What the rows of a sound netlist name is drawn, nodes and variables.
 use Rattle.std.proofs.Common.{◌≡◌, ℕ, zero, suc, ◌+◌, ◌<◌, ◌≤◌, true, ltb, List, [], ◌∷◌, length, refl, ap, ⊎_elim, arith}
 use Rattle.std.proofs.lemmas.Bool.{and_parts, ltb-true, eq-eqb, cases_lt}
 use Rattle.netlist.specs.declared.rows.Row.{Row}

@@ -1,6 +1,6 @@
 -- Equations of netlists that are alike.
 use Rattle.quantity.specs.Group.{Group}
-use Rattle.plants.proofs.Agreeing.{plants_agree}
+use Rattle.likeness.proofs.Agreeing.{plants_agree}
 use Rattle.readings.specs.Turned.{EquationsTurn}
 use Rattle.readings.proofs.Agreeing.{equations_agree}
 

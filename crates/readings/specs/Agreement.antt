@@ -1,5 +1,5 @@
 -- What the listed equations of a netlist say of its laws, nodes and rows, and when potentials satisfy all
--- of them. Assumes nothing.
+-- of them.
 use Rattle.std.specs.Prelude.{◌≡◌, ℕ, zero, suc, ◌+◌, ◌<◌, ◌↔◌, List, [], length, slice_index_or}
 use Rattle.quantity.specs.Group.{Group, minus}
 use Rattle.netlist.specs.Netlist.{Netlist}
@@ -8,7 +8,7 @@ use Rattle.netlist.specs.Sound.{Sound}
 use Rattle.network.specs.Walks.{read, row_at, tail_of, head_of}
 use Rattle.network.specs.Laws.{law_sum}
 use Rattle.network.specs.Flows.{excess}
-use Rattle.network.specs.Balances.{Balances}
+use Rattle.network.specs.ReadingsAgree.{ReadingsAgree}
 use Rattle.readings.specs.Readings.{comes_to, EquationsHold}
 
 -- the potentials of the earth point, which is zero, and of the nodes behind it
@@ -43,4 +43,4 @@ EquationsByPart {G} 𝓖 = (b : Netlist) → Sound b → (values rates : List G)
 -- THEOREM: some potentials satisfy all listed equations of a sound netlist exactly if every law holds, nothing flows out of
 -- any set of nodes, and every closed walk adds up to zero
 abbrev pub EquationsAgree : {G : Type 0} → Group G → Type 0
-EquationsAgree {G} 𝓖 = (b : Netlist) → Sound b → (values rates : List G) → ((p : ℕ → G) × EquationsHold 𝓖 b values rates p) ↔ Balances 𝓖 b values rates
+EquationsAgree {G} 𝓖 = (b : Netlist) → Sound b → (values rates : List G) → ((p : ℕ → G) × EquationsHold 𝓖 b values rates p) ↔ ReadingsAgree 𝓖 b values rates

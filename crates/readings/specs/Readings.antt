@@ -1,4 +1,4 @@
--- What the listed equations of a netlist come to, once readings and potentials are put into them. Assumes nothing.
+-- What the listed equations of a netlist come to, once readings and potentials are put into them.
 use Rattle.std.specs.Prelude.{◌≡◌, ℕ, ◌-◌, ◌<◌, cond, List, [], ◌∷◌, length, nat_lt, slice_index_or}
 use Rattle.quantity.specs.Group.{Group}
 use Rattle.netlist.specs.Netlist.{Netlist}

@@ -1,10 +1,10 @@
--- The listed equations of netlists that are alike. Assumes nothing.
+-- The listed equations of netlists that are alike.
 use Rattle.std.specs.Prelude.{ℕ, ◌↔◌, List}
 use Rattle.quantity.specs.Group.{Group}
 use Rattle.netlist.specs.Alike.{Alike}
 use Rattle.netlist.specs.Netlist.{Netlist}
 use Rattle.netlist.specs.Sound.{Sound}
-use Rattle.plants.specs.Agreeing.{ReadAlike}
+use Rattle.likeness.specs.Agreeing.{ReadAlike}
 use Rattle.readings.specs.Readings.{EquationsHold}
 
 -- THEOREM: of two sound netlists that are alike, with readings that are read alike, potentials satisfy all equations of

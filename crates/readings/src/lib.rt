@@ -1,5 +1,5 @@
-// What the listed equations of a netlist come to, once readings and potentials are put into them, for every
-// kind of quantity.
+//! What the listed equations of a netlist come to, once readings and potentials are put into them, for every
+//! kind of quantity.
 #![tactic(auto)]
 
 ghost use Rattle.std.specs.Prelude.{◌≡◌};
@@ -10,7 +10,7 @@ ghost use Rattle.readings.specs.Turned.{EquationsTurn};
 
 use netlist::terms::Term;
 use quantity::Quantity;
-use sums::{reading, value_or_rate};
+use reading_sums::{reading, value_or_rate};
 
 // What a term of an equation reads: of so many variables the value or the rate of one, or else the potential
 // of a node.
@@ -30,8 +30,8 @@ fn term_reading<K: Quantity>(
     }
 }
 
-// What an equation of a netlist with so many variables comes to. A reading or a potential that a list lacks
-// counts as zero.
+/// What an equation of a netlist with so many variables comes to. A reading or a potential that a list lacks
+/// counts as zero.
 pub fn equation_sum<K: Quantity>(
     equation: &[Term],
     variables: usize,
@@ -51,8 +51,8 @@ pub fn equation_sum<K: Quantity>(
     sum
 }
 
-// Potentials satisfy all equations of two netlists that are alike, or of neither. This computes nothing: the
-// theorem is the contract.
+/// Potentials satisfy all equations of two netlists that are alike, or of neither. This computes nothing: the
+/// theorem is the contract.
 pub fn equations_turn<K: Quantity>()
     ensures { EquationsTurn K.Quantity.group }
 {}

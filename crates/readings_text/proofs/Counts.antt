@@ -1,4 +1,4 @@
--- Readings that are read to their end are as many as were wanted. Assumes nothing.
+-- Readings that are read to their end are as many as were wanted.
 use Rattle.std.proofs.Common.{◌≡◌, ℕ, ◌+◌, ◌-◌, List, [], ◌∷◌, length, Ok, Err, Bool, true, false, cond, eqb, true-eqb, refl, sym, ap, ◌∙◌, ⊎_elim, arith}
 use Rattle.text.specs.Grammar.{Bytes}
 use Rattle.readings_text.specs.declared.faults.ReadingsFault.{ReadingsFault}

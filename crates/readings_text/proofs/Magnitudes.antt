@@ -1,4 +1,4 @@
--- Numbers digit by digit. Assumes nothing.
+-- Numbers digit by digit.
 use Rattle.std.proofs.Common.{◌≡◌, ℕ, ◌+◌, ◌-◌, ◌*◌, ◌^◌, ◌≤◌, [], ◌∷◌, min, ◌⊎◌, inl, inr, ⊎_elim, ap, ◌∙◌, arith}
 use Rattle.std.specs.List.{fold}
 use Rattle.std.proofs.lemmas.Bool.{cases_order}

@@ -1,4 +1,4 @@
--- A line of readings is split at its first blank. Assumes nothing.
+-- A line of readings is split at its first blank.
 use Rattle.std.proofs.Common.{◌≡◌, ℕ, zero, suc, ◌+◌, ◌-◌, ◌<◌, ◌≤◌, [], ◌∷◌, ◌++◌, length, take, drop, get_or, refl, sym, ap, ◌∙◌, add-one, subst, ⊎_elim, arith}
 use Rattle.std.proofs.lemmas.List.{take_rest}
 use Rattle.quantity.specs.declared.numbers.Whole.{Whole}

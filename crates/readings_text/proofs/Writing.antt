@@ -1,4 +1,4 @@
--- Which texts write numbers. Assumes nothing.
+-- Which texts write numbers.
 use Rattle.std.proofs.Common.{◌≡◌, ℕ, ◌∷◌, [], inl, inr, ⊎_elim, sym, None, Some, Option, MatchOption, subst, ◌∙◌, arith, get_or, length, take, drop, ◌≤◌, ◌-◌, ap}
 use Rattle.std.proofs.lemmas.List.{drop_more, take_rest}
 use Rattle.quantity.specs.declared.numbers.Whole.{Whole}

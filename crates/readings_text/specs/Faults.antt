@@ -1,4 +1,4 @@
--- How a user is told of a fault of readings. Assumes nothing.
+-- How a user is told of a fault of readings.
 use Rattle.std.specs.Prelude.{◌++◌, codes, decimal}
 use Rattle.text.specs.Grammar.{Bytes}
 use Rattle.readings_text.specs.declared.faults.ReadingsFault.{ReadingsFault}

@@ -1,4 +1,4 @@
--- What a line of readings says. Assumes nothing.
+-- What a line of readings says.
 use Rattle.std.specs.Prelude.{◌≡◌, ◌≤◌, ℕ, [], ◌∷◌, ◌++◌, Option, None, Some}
 use Rattle.text.specs.Grammar.{Bytes}
 use Rattle.readings_text.specs.declared.faults.ReadingsFault.{ReadingsFault}

@@ -1,4 +1,4 @@
--- Whole numbers as a text writes them. Assumes nothing.
+-- Whole numbers as a text writes them.
 use Rattle.std.specs.Prelude.{◌≡◌, ◌≤◌, ◌⊎◌, ◌∷◌, length, pos, neg_ℤ}
 use Rattle.std.specs.List.{All}
 use Rattle.quantity.specs.declared.numbers.Whole.{Whole}

@@ -1,4 +1,4 @@
--- What reading a text of readings comes to. Assumes nothing.
+-- What reading a text of readings comes to.
 use Rattle.std.specs.Prelude.{◌≡◌, ◌≤◌, ℕ, ◌+◌, ◌-◌, cond, ◌==◌, ◌⊎◌, List, [], ◌∷◌, ◌++◌, map, Result, Ok, Err, IsErrAnd}
 use Rattle.quantity.specs.declared.numbers.Whole.{Whole}
 use Rattle.text.specs.Grammar.{Bytes}

@@ -1,17 +1,17 @@
-// Why readings are not read to their end.
+//! Why readings are not read to their end.
 ghost use Rattle.std.specs.Prelude.{Some};
 ghost use Rattle.readings_text.specs.Faults.{fault_text};
 
 use std::fmt;
 
-// Lines are counted from 1.
+/// Lines are counted from 1.
 #[derive(Clone, Copy, PartialEq, Eq, Debug)]
 pub enum ReadingsFault {
-    // The line is no reading, no comment and not empty.
+    /// The line is no reading, no comment and not empty.
     Form { line: usize },
-    // The line is a reading, and every variable has one already.
+    /// The line is a reading, and every variable has one already.
     TooMany { line: usize },
-    // The text ends with this line, and a variable has no reading.
+    /// The text ends with this line, and a variable has no reading.
     TooFew { line: usize },
 }
 

@@ -1,4 +1,4 @@
-// Readings as a text: a line for each variable, with its value and its rate.
+//! Readings as a text: a line for each variable, with its value and its rate.
 #![tactic(auto)]
 
 mod faults;

@@ -1,4 +1,4 @@
-// A line of readings.
+//! A line of readings.
 ghost use Rattle.std.specs.Prelude.{◌≡◌, ℕ, ◌<◌, ◌≤◌, length, MatchOption, MatchResult, slice_index, ◌≢◌};
 ghost use Rattle.std.specs.Bool.{Decides};
 ghost use Rattle.readings_text.specs.Lines.{AtFault, Reads, Silent, WritesReading};
@@ -8,7 +8,7 @@ use crate::numbers::number;
 use quantity::Whole;
 use text::TextLine;
 
-// What is read of a variable.
+/// What is read of a variable.
 #[derive(Clone, Copy, PartialEq, Eq, Debug)]
 pub struct Reading {
     pub value: Whole,

@@ -1,4 +1,4 @@
-// Whole numbers as a text writes them.
+//! Whole numbers as a text writes them.
 ghost use Rattle.std.specs.Prelude.{◌≡◌, ◌-◌, ◌^◌, min, MatchOption, Decides};
 ghost use Rattle.std.specs.List.{All};
 ghost use Rattle.text.specs.Decimal.{decimal};
@@ -49,7 +49,7 @@ fn negative(digits: &[u8]) -> Option<Whole>
     Some(Whole::new(value))
 }
 
-// The whole number that the text writes, if it writes one that fits.
+/// The whole number that the text writes, if it writes one that fits.
 pub fn number(text: &[u8]) -> Option<Whole>
     ensures { MatchOption result ((w : Whole) → Writes text.now w → ⊥) (Writes text.now) }
 {

@@ -1,4 +1,4 @@
-// A text of readings is read.
+//! A text of readings is read.
 ghost use Rattle.std.specs.Prelude.{IfOk};
 ghost use Rattle.readings_text.specs.Readings.{ReadsReadings};
 
@@ -8,8 +8,8 @@ use quantity::Whole;
 use std::alloc::AllocError;
 use text::lines;
 
-// Reads a value and a rate for each of so many variables, up to the first fault. What the lines before a fault
-// read stays. It fails for want of memory alone.
+/// Reads a value and a rate for each of so many variables, up to the first fault. What the lines before a fault
+/// read stays. It fails for want of memory alone.
 pub fn read_readings(
     text: &[u8],
     variables: usize,

@@ -1,4 +1,4 @@
--- What copies have, told by the size of the part. Assumes nothing.
+-- What copies have, told by the size of the part.
 use Rattle.std.proofs.Common.{◌≡◌, ℕ, Bool, true, false, cond, ◌&&◌, Some, None, refl, ap, ◌∙◌}
 use Rattle.std.proofs.lemmas.Bool.{cond-true, cond-false, and_from}
 use Rattle.assembly.specs.declared.plans.Size.{Size}

@@ -1,4 +1,4 @@
--- Each reply of copies in series, from the part's replies. Assumes nothing.
+-- Each reply of copies in series, from the part's replies.
 use Rattle.std.proofs.Common.{◌≡◌, ℕ, zero, suc, ◌+◌, ◌-◌, ◌*◌, ◌<◌, ◌≤◌, Bool, true, false, ◌&&◌, List, ◌++◌, map, length, Some, None, Option, sym, refl, ap, ◌∙◌, drop, subst, mul-le-mul_right, arith}
 use Rattle.std.specs.List.{range_with_len, flat_map, slice_get}
 use Rattle.std.specs.Option.{option_map}

@@ -1,4 +1,4 @@
--- Lists of one length, one after the other. Assumes nothing.
+-- Lists of one length, one after the other.
 use Rattle.std.proofs.Common.{◌≡◌, ℕ, zero, suc, ◌+◌, ◌-◌, ◌*◌, ◌<◌, ◌≤◌, List, ◌++◌, map, length, None, sym, ap, ◌∙◌, mul-le-mul_right, suc-mul, arith}
 use Rattle.std.specs.List.{range_with_len, flat_map, slice_get}
 use Rattle.std.specs.Option.{option_map}

@@ -1,4 +1,4 @@
--- What copies of a part have, told by the size of the part alone. Assumes nothing.
+-- What copies of a part have, told by the size of the part alone.
 use Rattle.std.specs.Prelude.{◌≡◌, ℕ, cond, true, ◌&&◌, Some, None, Option}
 use Rattle.assembly.specs.declared.plans.Size.{Size}
 use Rattle.assembly.specs.Meaning.{plan, Plan, Bounded, size_in, size_of, is_small}

@@ -1,4 +1,4 @@
-// What copies have together, and where the things of each copy go.
+//! What copies have together, and where the things of each copy go.
 ghost use Rattle.std.specs.Prelude.{◌*◌, ◌≤◌};
 
 use assembly::plans::Size;
@@ -6,7 +6,7 @@ use layers::renumbering::Renumbering;
 
 const MOST: usize = 1000;
 
-// What one copy has, how many there are, and what the layer has. Sixteen bits hold the layer's numbers.
+/// What one copy has, how many there are, and what the layer has. Sixteen bits hold the layer's numbers.
 #[derive(Clone, Copy)]
 pub struct Copies {
     pub part: Size,
@@ -17,7 +17,7 @@ pub struct Copies {
     ghost few_variables: { times * part.variables ≤ 6000 },
 }
 
-// A place in one of the copies.
+/// A place in one of the copies.
 #[derive(Clone, Copy)]
 pub struct Spot {
     pub copy: usize,
@@ -28,8 +28,8 @@ impl Copies {
     ghost use Rattle.std.specs.Prelude.{◌≡◌, ◌*◌, ◌<◌, ◌≤◌, MatchOption};
     ghost use Rattle.repeat.specs.Repeat.{SmallCopies, stop_at, copy_place, IsSpot};
 
-    // The copies together with the joints between them; `None` where there are none or too many, or the
-    // layer would have too much.
+    /// The copies together with the joints between them; `None` where there are none or too many, or the
+    /// layer would have too much.
     pub fn new(part: Size, times: usize) -> Option<Copies>
         ensures { SmallCopies times part result }
     {

@@ -1,8 +1,8 @@
-// Copies of one assembly in series: the second end of each copy is the first end of the next, at a joint.
-// The layer's ends are the first end of the first copy and the second end of the last. Its inner nodes are
-// the copies', copy by copy, and then the joints; its variables, rows and laws are the copies', copy by
-// copy. It is void where the part is, where the part's ends differ in domain, where there are not 1 to
-// 1,000 copies, and where it has too much. One copy is a layer too.
+//! Copies of one assembly in series: the second end of each copy is the first end of the next, at a joint.
+//! The layer's ends are the first end of the first copy and the second end of the last. Its inner nodes are
+//! the copies', copy by copy, and then the joints; its variables, rows and laws are the copies', copy by
+//! copy. It is void where the part is, where the part's ends differ in domain, where there are not 1 to
+//! 1,000 copies, and where it has too much. One copy is a layer too.
 #![tactic(auto)]
 
 ghost use Rattle.repeat.specs.Repeat.{repeated, Tells};

@@ -1,4 +1,4 @@
--- One byte more than a text may have is enough of it. Assumes nothing.
+-- One byte more than a text may have is enough of it.
 use Rattle.std.proofs.Common.{◌≡◌, ℕ, ◌<◌, ◌≤◌, [], ◌++◌, Option, Some, None, length, take, inl, inr, ap, ◌∙◌, subst, arith}
 use Rattle.std.proofs.lemmas.List.{length-take, take_all}
 use Rattle.std.specs.Prelude.{IfSome}

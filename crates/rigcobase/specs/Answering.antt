@@ -1,4 +1,4 @@
--- What the program writes on what it reads. Assumes nothing.
+-- What the program writes on what it reads.
 use Rattle.std.specs.Prelude.{◌≡◌, ℕ, [], List, IfSome, Option}
 use Rattle.std.specs.Io.KnownBytes.{Appends}
 use Rattle.text.specs.Grammar.{Bytes}

@@ -1,4 +1,4 @@
-// A text is read from a reader, and what is printed of it is written to a writer.
+//! A text is read from a reader, and what is printed of it is written to a writer.
 ghost use Rattle.std.specs.Prelude.{◌≡◌, IfOk, IfSome, take};
 ghost use Rattle.rigcobase.specs.Answering.{Answers};
 

@@ -1,4 +1,4 @@
-// Reads a sheet text from the standard input, and prints the equations that it stands for, or its fault.
+//! Reads a sheet text from the standard input, and prints the equations that it stands for, or its fault.
 #![tactic(auto)]
 
 mod answering;

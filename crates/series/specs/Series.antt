@@ -1,4 +1,4 @@
--- What two parts in series mean. Assumes nothing.
+-- What two parts in series mean.
 use Rattle.std.specs.Prelude.{ℕ, ◌+◌, Bool, ◌++◌}
 use Rattle.assembly.specs.declared.plans.Size.{Size}
 use Rattle.assembly.specs.Meaning.{Meaning, Plan, size_in}

@@ -1,7 +1,7 @@
-// Two assemblies in series: the first part's second end is the second part's first, at a joint. The
-// layer's ends are the first part's first and the second part's second. Its inner nodes are the first
-// part's, the second part's and the joint; its variables, rows and laws the first part's, then the
-// second's. It is void where a part is, where the domains that meet differ, and where it has too much.
+//! Two assemblies in series: the first part's second end is the second part's first, at a joint. The
+//! layer's ends are the first part's first and the second part's second. Its inner nodes are the first
+//! part's, the second part's and the joint; its variables, rows and laws the first part's, then the
+//! second's. It is void where a part is, where the domains that meet differ, and where it has too much.
 #![tactic(auto)]
 
 ghost use Rattle.std.specs.Prelude.{◌≡◌, MatchOption};

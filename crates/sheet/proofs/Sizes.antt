@@ -1,4 +1,4 @@
--- How much the tables hold. Assumes nothing.
+-- How much the tables hold.
 use Rattle.std.proofs.Common.{◌≡◌, length, ◌∙◌, arith}
 use Rattle.std.proofs.lemmas.List.{length-map}
 use Rattle.netlist.specs.Domains.{domain_number}

@@ -1,4 +1,4 @@
--- What every draft keeps to, read on its netlist. Assumes nothing.
+-- What every draft keeps to, read on its netlist.
 use Rattle.std.proofs.Common.{◌∙◌, arith}
 use Rattle.netlist.specs.declared.domains.Domain.{Domain}
 use Rattle.netlist.specs.Domains.{domain_number}

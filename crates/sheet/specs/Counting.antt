@@ -1,4 +1,4 @@
--- How much a netlist has of each thing, and whether so much more finds room. Assumes nothing.
+-- How much a netlist has of each thing, and whether so much more finds room.
 use Rattle.std.specs.Prelude.{ℕ, ◌+◌, [], ◌∷◌, length, nat_lt}
 use Rattle.netlist.specs.declared.refusals.Refusal.TheVariants.{Limit}
 use Rattle.netlist.specs.declared.refusals.Table.TheVariants.{Nodes, Variables, Rows, Laws, Terms}

@@ -1,4 +1,4 @@
--- What a draft holds, and the netlist that this stands for. Assumes nothing.
+-- What a draft holds, and the netlist that this stands for.
 use Rattle.std.specs.Prelude.{◌≡◌, true, List, map, vec_len}
 use Rattle.netlist.specs.declared.terms.Term.{Term}
 use Rattle.netlist.specs.Domains.{domain_number}

@@ -1,4 +1,4 @@
--- Room that is reserved once, so that later calls need no memory. Assumes nothing.
+-- Room that is reserved once, so that later calls need no memory.
 use Rattle.std.specs.Prelude.{ℕ, ◌≤◌, vec_len, vec_capacity, Vec}
 
 -- at most n entries, and room for n

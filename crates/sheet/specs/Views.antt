@@ -1,4 +1,4 @@
--- The laws that a view shows. Assumes nothing.
+-- The laws that a view shows.
 use Rattle.std.specs.Prelude.{List}
 use Rattle.netlist.specs.declared.terms.Term.{Term}
 use Rattle.netlist.specs.Pieces.{pieces}

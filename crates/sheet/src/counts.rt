@@ -1,4 +1,4 @@
-// How much there is of each thing.
+//! How much there is of each thing.
 #[derive(Clone, Copy, PartialEq, Eq, Debug)]
 pub struct Counts {
     pub nodes: usize,

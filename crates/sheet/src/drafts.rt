@@ -1,4 +1,4 @@
-// A draft: what has been drawn so far.
+//! A draft: what has been drawn so far.
 use crate::laws::LawTable;
 use netlist::domains::Domain;
 use netlist::rows::Row;
@@ -17,8 +17,8 @@ const MAX_VARIABLES: usize = 4000;
 
 pub const MAX_ROWS: usize = 1500;
 
-// Each table has room for all that the limits allow, so no call runs out of memory. `taken` has a flag
-// for each variable, up where a row has it. A draft moves: it is neither copied nor cloned.
+/// Each table has room for all that the limits allow, so no call runs out of memory. `taken` has a flag
+/// for each variable, up where a row has it. A draft moves: it is neither copied nor cloned.
 #[derive(Drop)]
 pub struct Draft {
     domains: Vec<Domain>,

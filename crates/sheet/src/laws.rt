@@ -1,4 +1,4 @@
-// The laws of a draft, in tables that never need memory again.
+//! The laws of a draft, in tables that never need memory again.
 ghost use Rattle.std.specs.Prelude.{◌≡◌, true};
 ghost use Rattle.netlist.specs.Pieces.{total};
 ghost use Rattle.netlist.specs.Sound.{every, is_sized, is_term_count};

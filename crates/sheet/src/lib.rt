@@ -1,4 +1,4 @@
-// Plant sheets: a draft is filled by calls, each of which is judged first, and then issued.
+//! Plant sheets: a draft is filled by calls, each of which is judged first, and then issued.
 #![tactic(auto)]
 
 pub mod counts;

@@ -1,4 +1,4 @@
--- The laws of reading, by induction on the lines. Assumes nothing.
+-- The laws of reading, by induction on the lines.
 use Rattle.std.proofs.Common.{◌≡◌, ℕ, suc, ◌+◌, ◌<◌, List, [], ◌∷◌, length, Ok, Err, IsOk, MatchResult, is_ok, inl, inr, refl, sym, ap, ◌∙◌, subst, arith, get_or}
 use Rattle.std.specs.Result.{IsErrAnd}
 use Rattle.netlist.specs.Netlist.{Netlist}

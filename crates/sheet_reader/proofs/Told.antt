@@ -1,4 +1,4 @@
--- The five numbers of a fault, spelled, are the fault's line. Assumes nothing.
+-- The five numbers of a fault, spelled, are the fault's line.
 use Rattle.std.proofs.Common.{◌≡◌, ℕ, ◌+◌, ◌^◌, ◌<◌, ◌≤◌, List, [], ◌++◌, length, append_assoc, append-nil, codes, decimal, arith}
 use Rattle.std.proofs.lemmas.Fmt.{length-decimal-le}
 use Rattle.std.proofs.lemmas.List.{length-append}

@@ -1,4 +1,4 @@
--- What a command does to a netlist: that of the call that it names. Assumes nothing.
+-- What a command does to a netlist: that of the call that it names.
 use Rattle.std.specs.Prelude.{ℕ, List, [], ◌∷◌, take, ℤ, pos, None, Option, slice_index_or}
 use Rattle.netlist.specs.declared.refusals.Refusal.{Refusal}
 use Rattle.netlist.specs.declared.rows.Row.TheVariants as row

@@ -1,4 +1,4 @@
--- The line, the column, the number, the place and the cause of each fault of a text. Assumes nothing.
+-- The line, the column, the number, the place and the cause of each fault of a text.
 use Rattle.std.specs.Prelude.{ℕ, List, ◌++◌, codes, decimal}
 use Rattle.netlist.specs.Refusals as refusal
 use Rattle.sheet_reader.specs.declared.faults.TextFault.{TextFault}

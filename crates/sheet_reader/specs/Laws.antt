@@ -1,5 +1,5 @@
 -- What reading a text comes to as a whole: which lines are drawn, when all of them are, and that no other answer
--- fits. Assumes nothing.
+-- fits.
 use Rattle.std.specs.Prelude.{◌≡◌, ℕ, ◌+◌, ◌<◌, ◌≤◌, ◌↔◌, List, [], ◌∷◌, length, take, IsOk, MatchResult, slice_index_or}
 use Rattle.netlist.specs.Netlist.{Netlist}
 use Rattle.text.specs.Grammar.{Bytes}

@@ -1,5 +1,4 @@
 -- What reading a text draws on a netlist b, and what it answers: r is the answer, and c the netlist afterwards.
--- Assumes nothing.
 use Rattle.std.specs.Prelude.{◌≡◌, ℕ, ◌+◌, ◌<◌, ◌≤◌, ◌⊎◌, List, [], ◌∷◌, length, None, Some, Ok, Err, Result, IsErrAnd}
 use Rattle.netlist.specs.Netlist.{Netlist}
 use Rattle.text.specs.Grammar.{Bytes, Allowed}

@@ -1,4 +1,4 @@
-// A command is drawn: the call that it names is made.
+//! A command is drawn: the call that it names is made.
 ghost use Rattle.std.specs.Prelude.{◌≡◌};
 ghost use Rattle.judging.specs.Judging.{Tells};
 ghost use Rattle.sheet_reader.specs.Drawing.{judge_command, after_command};
@@ -10,7 +10,7 @@ use place::place;
 use repeat::Repeat;
 use sheet::Draft;
 
-// Draws what is commanded, or is refused as the call is.
+/// Draws what is commanded, or is refused as the call is.
 pub fn draw(command: Command, draft: &mut Draft) -> Result<(), Refusal>
     ensures answer { Tells (judge_command draft.old command) result }
     ensures netlist { draft.new ≡ after_command draft.old command }

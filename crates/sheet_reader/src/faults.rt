@@ -1,5 +1,5 @@
-// Why a text is not read to its end. Users know a fault by its line and column, and by a number, a place and
-// a cause, which are those of the refusal where a call is refused.
+//! Why a text is not read to its end. Users know a fault by its line and column, and by a number, a place and
+//! a cause, which are those of the refusal where a call is refused.
 ghost use Rattle.std.specs.Prelude.{◌≡◌, ◌≤◌, Some, length};
 ghost use Rattle.netlist.specs.Buffers.{filled};
 ghost use Rattle.spelling.specs.Rules.{judge_text, answer_text};
@@ -9,19 +9,19 @@ use netlist::refusals::Refusal;
 use spelling::faults::{self, FaultLine};
 use std::fmt;
 
-// Lines and columns are counted from 1.
+/// Lines and columns are counted from 1.
 #[derive(Clone, Copy, PartialEq, Eq, Debug)]
 pub enum TextFault {
-    // A line has no allowed form. The column is that of the first byte that no allowed line has there.
+    /// A line has no allowed form. The column is that of the first byte that no allowed line has there.
     Form { line: usize, column: usize },
-    // The text is longer than a sheet text may be.
+    /// The text is longer than a sheet text may be.
     TooLong,
-    // What a line commands is refused.
+    /// What a line commands is refused.
     Refused { line: usize, why: Refusal },
 }
 
 impl TextFault {
-    // 0 where the whole text is at fault.
+    /// 0 where the whole text is at fault.
     pub fn line(self) -> usize
         ensures { result ≡ line self }
     {
@@ -31,7 +31,7 @@ impl TextFault {
         }
     }
 
-    // A refused call is told at column 1 of its line.
+    /// A refused call is told at column 1 of its line.
     pub fn column(self) -> usize
         ensures { result ≡ column self }
     {
@@ -88,12 +88,12 @@ impl fmt::Display for TextFault {
 
 impl std::error::Error for TextFault {}
 
-// A buffer of so many bytes holds the line of each fault: a word, and five numbers of at most 20 digits, each
-// behind a blank.
+/// A buffer of so many bytes holds the line of each fault: a word, and five numbers of at most 20 digits, each
+/// behind a blank.
 pub const FAULT_BYTES: usize = 111;
 
-// Prints the fault as a line, and answers how many bytes that took. A buffer that is too short is left
-// untouched.
+/// Prints the fault as a line, and answers how many bytes that took. A buffer that is too short is left
+/// untouched.
 #[tactic(auto, using(crate::proofs::Told::line_told, crate::proofs::Told::line_short))]
 pub fn write_fault(fault: TextFault, buffer: &mut [u8]) -> Result<usize, Refusal>
     ensures short { length (fault_line fault) ≤ 111 }

@@ -1,4 +1,4 @@
-// A sheet text is read into a draft: each line is drawn as the call that it commands, up to the first fault.
+//! A sheet text is read into a draft: each line is drawn as the call that it commands, up to the first fault.
 #![tactic(auto)]
 
 mod drawing;

@@ -1,4 +1,4 @@
-// A text is read: each line is drawn before the next is read.
+//! A text is read: each line is drawn before the next is read.
 ghost use Rattle.std.specs.Prelude.{◌≡◌, MatchResult};
 ghost use Rattle.text.specs.Newlines.{lines_of};
 ghost use Rattle.sheet_reader.specs.Laws.{ReadingLaw};
@@ -34,7 +34,7 @@ fn draw_lines(text: &[u8], draft: &mut Draft) -> Result<(), TextFault>
     Ok(())
 }
 
-// Reads the text into the draft, up to its first fault. What the lines before a fault drew stays drawn.
+/// Reads the text into the draft, up to its first fault. What the lines before a fault drew stays drawn.
 #[tactic(auto, using(crate::proofs::Laws::reading_law))]
 pub fn read(text: &[u8], draft: &mut Draft) -> Result<(), TextFault>
     ensures reads { ReadsText text.now draft.old result draft.new }

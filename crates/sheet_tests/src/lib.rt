@@ -1,4 +1,4 @@
-// Examples of drawing and of refusals.
+//! Examples of drawing and of refusals.
 #![tactic(auto)]
 
 #[cfg(test)]

@@ -1,4 +1,4 @@
--- The text of numbers, from one of them to the next. Assumes nothing.
+-- The text of numbers, from one of them to the next.
 use Rattle.std.proofs.Common.{◌≡◌, ℕ, ◌+◌, ◌<◌, List, ◌++◌, length, get_or, take, drop, codes, decimal}
 use Rattle.std.proofs.lemmas.List.{at_drop_more}
 use Rattle.netlist.proofs.Joined.{joined_next}

@@ -1,4 +1,4 @@
--- The text of the rest of a sum, from one term of it to the next. Assumes nothing.
+-- The text of the rest of a sum, from one term of it to the next.
 use Rattle.std.proofs.Common.{◌≡◌, ℕ, ◌+◌, ◌<◌, List, ◌++◌, length, get_or, take, drop, pos, codes}
 use Rattle.std.proofs.lemmas.List.{at_drop_more}
 use Rattle.netlist.specs.declared.terms.Order.TheVariants.{Value}

@@ -1,5 +1,5 @@
 -- The line that tells a fault of a text: the word "fault", its line, column, number, place and cause in decimal, each
--- behind a blank, and a newline. Assumes nothing.
+-- behind a blank, and a newline.
 use Rattle.std.specs.Prelude.{ℕ, List, [], ◌∷◌, ◌++◌, codes, decimal}
 use Rattle.std.specs.List.{flat_map}
 use Rattle.spelling.specs.declared.faults.FaultLine.{FaultLine}

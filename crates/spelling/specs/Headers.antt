@@ -1,5 +1,5 @@
 -- The line above a list of equations: the word "equations", a blank, how many there are in decimal,
--- and a newline. Assumes nothing.
+-- and a newline.
 use Rattle.std.specs.Prelude.{ℕ, List, ◌++◌, codes, decimal}
 
 abbrev pub header_text : ℕ → List ℕ

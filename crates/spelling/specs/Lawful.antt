@@ -1,4 +1,4 @@
--- That a measure and a cursor keep the laws of a sink, as the trait states them. Assumes nothing.
+-- That a measure and a cursor keep the laws of a sink, as the trait states them.
 use Rattle.std.proofs.Common.{◌≡◌, ℕ, ◌+◌, ◌≤◌, List, [], ◌++◌, length, refl, sym, ap, ◌∙◌, arith}
 use Rattle.std.proofs.lemmas.List.{length-append, length-take-le, length-drop}
 use Rattle.netlist.specs.Buffers.{written}

@@ -6,7 +6,6 @@
 --     +200v0 -1v1 = 0
 --     +1v1 -1p0 +1p1 = 0
 --     0 = 0
--- Assumes nothing.
 use Rattle.std.specs.Prelude.{ℕ, List, [], ◌∷◌, ◌++◌, ℤ, pos, negsuc, codes, decimal, unsigned_abs}
 use Rattle.std.specs.List.{flat_map}
 use Rattle.netlist.specs.declared.terms.Term.{Term}

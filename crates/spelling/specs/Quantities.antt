@@ -1,6 +1,6 @@
 -- What a term takes times its coefficient: the value or the rate of a variable, or the potential of a
 -- node. On a sheet with V variables, variable number V + n in a term means the potential of node n.
--- A potential has no letter for its rate, so there the order does not matter. Assumes nothing.
+-- A potential has no letter for its rate, so there the order does not matter.
 use Rattle.std.specs.Prelude.{ℕ, ◌-◌, cond, List, codes, nat_lt}
 use Rattle.netlist.specs.declared.terms.Order.{Order}
 use Rattle.netlist.specs.declared.terms.Order.TheVariants.{Value as ByValue, Rate as ByRate}

@@ -1,5 +1,5 @@
 -- When a line is printed, and what is answered. It is refused if the buffer is shorter than the line;
--- else the answer is how many bytes were written. Assumes nothing.
+-- else the answer is how many bytes were written.
 use Rattle.std.specs.Prelude.{ℕ, List, [], ◌∷◌, length, Option, Result, nat_lt}
 use Rattle.netlist.specs.declared.refusals.Refusal.{Refusal}
 use Rattle.netlist.specs.declared.refusals.Refusal.TheVariants.{ShortBuffer}

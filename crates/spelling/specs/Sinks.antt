@@ -1,4 +1,4 @@
--- What it is to give bytes to a measure or to a cursor. Assumes nothing.
+-- What it is to give bytes to a measure or to a cursor.
 use Rattle.std.specs.Prelude.{◌≡◌, ℕ, ◌+◌, ◌-◌, ◌^◌, ◌≤◌, List, length, min, ⊤}
 use Rattle.netlist.specs.Buffers.{written}
 use Rattle.spelling.specs.declared.sinks.Cursor.{Cursor}

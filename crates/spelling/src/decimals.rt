@@ -1,4 +1,4 @@
-// Numbers in decimal, with no leading zero.
+//! Numbers in decimal, with no leading zero.
 ghost use Rattle.std.specs.Prelude.{◌+◌, ◌<◌, [], ◌∷◌, decimal};
 
 use crate::sinks::Sink;

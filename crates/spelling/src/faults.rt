@@ -1,4 +1,4 @@
-// The line that tells a fault of a text.
+//! The line that tells a fault of a text.
 ghost use Rattle.std.specs.Prelude.{◌≡◌};
 ghost use Rattle.netlist.specs.Buffers.{filled};
 ghost use Rattle.spelling.specs.Faults.{fault_text, numbers_text};
@@ -9,7 +9,7 @@ use crate::sinks::Sink;
 use crate::texts::{Text, print};
 use netlist::refusals::Refusal;
 
-// Where a fault is, from 1, and the three numbers by which a user knows it.
+/// Where a fault is, from 1, and the three numbers by which a user knows it.
 #[derive(Clone, Copy, PartialEq, Eq, Debug)]
 pub struct FaultLine {
     pub line: usize,
@@ -47,8 +47,8 @@ impl Text for FaultLine {
     }
 }
 
-// Prints the line of a fault, and answers how many bytes that took. A buffer that is too short is left
-// untouched.
+/// Prints the line of a fault, and answers how many bytes that took. A buffer that is too short is left
+/// untouched.
 pub fn write_fault(fault: FaultLine, buffer: &mut [u8]) -> Result<usize, Refusal>
     ensures answer { result ≡ answer_text buffer.old (fault_text fault) }
     ensures buffer { buffer.new ≡ filled (judge_text buffer.old (fault_text fault)) buffer.old (fault_text fault) }

@@ -1,4 +1,4 @@
-// The line above a list of equations: how many there are.
+//! The line above a list of equations: how many there are.
 ghost use Rattle.std.specs.Prelude.{◌≡◌};
 ghost use Rattle.netlist.specs.Buffers.{filled};
 ghost use Rattle.spelling.specs.Headers.{header_text};
@@ -24,8 +24,8 @@ impl Text for Header {
     }
 }
 
-// Prints the header of `equations` equations, and answers how many bytes that took. A buffer that is
-// too short is left untouched.
+/// Prints the header of `equations` equations, and answers how many bytes that took. A buffer that is
+/// too short is left untouched.
 pub fn write_header(equations: usize, buffer: &mut [u8]) -> Result<usize, Refusal>
     ensures answer { result ≡ answer_text buffer.old (header_text equations) }
     ensures buffer { buffer.new ≡ filled (judge_text buffer.old (header_text equations)) buffer.old (header_text equations) }

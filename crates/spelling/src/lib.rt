@@ -1,5 +1,5 @@
-// An equation, and the header above a list of them, printed as a line of bytes into a buffer of the
-// caller's.
+//! An equation, and the header above a list of them, printed as a line of bytes into a buffer of the
+//! caller's.
 #![tactic(auto)]
 
 mod decimals;

@@ -1,4 +1,4 @@
-// The line of an equation: its sum, and then what says that the sum is zero.
+//! The line of an equation: its sum, and then what says that the sum is zero.
 ghost use Rattle.std.specs.Prelude.{◌≡◌};
 ghost use Rattle.netlist.specs.Buffers.{filled};
 ghost use Rattle.spelling.specs.Lines.{line_text};
@@ -25,8 +25,8 @@ impl Text for Line<'_> {
     }
 }
 
-// Prints the equation whose terms add up to zero, of a sheet with `variables` variables, and answers
-// how many bytes that took. A buffer that is too short is left untouched.
+/// Prints the equation whose terms add up to zero, of a sheet with `variables` variables, and answers
+/// how many bytes that took. A buffer that is too short is left untouched.
 pub fn write_line(terms: &[Term], variables: usize, buffer: &mut [u8]) -> Result<usize, Refusal>
     ensures answer { result ≡ answer_text buffer.old (line_text variables terms.now) }
     ensures buffer { buffer.new ≡ filled (judge_text buffer.old (line_text variables terms.now)) buffer.old (line_text variables terms.now) }

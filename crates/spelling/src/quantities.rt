@@ -1,4 +1,4 @@
-// What a term takes times its coefficient.
+//! What a term takes times its coefficient.
 ghost use Rattle.std.specs.Prelude.{◌≡◌};
 ghost use Rattle.spelling.specs.Quantities.{quantity, letter, number};
 

@@ -1,5 +1,5 @@
-// What a text is given to, piece after piece: a count of its bytes, or a buffer. So each text is spelled
-// once, and is first measured and then written.
+//! What a text is given to, piece after piece: a count of its bytes, or a buffer. So each text is spelled
+//! once, and is first measured and then written.
 ghost use Rattle.std.specs.Prelude.{◌≡◌, ℕ, ◌+◌, ◌≤◌, List, [], ◌++◌, length};
 ghost use Rattle.spelling.specs.Sinks.{AlwaysRoom, Counted, HasRoom, Written};
 ghost use Rattle.spelling.specs.Lawful.{counted_nothing, counted_both, always_room_first, always_room_second, written_nothing, written_both, has_room_first, has_room_second};

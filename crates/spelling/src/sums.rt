@@ -1,5 +1,5 @@
-// The sum of an equation: its terms, with single blanks between them.
-// A struct of `terms` and `variables` would be no plainer: it would be taken apart again at each term.
+//! The sum of an equation: its terms, with single blanks between them.
+//! A struct of `terms` and `variables` would be no plainer: it would be taken apart again at each term.
 ghost use Rattle.spelling.specs.Lines.{rest_text, sum_text};
 
 use crate::sinks::Sink;

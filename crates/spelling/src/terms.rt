@@ -1,4 +1,4 @@
-// One term of an equation.
+//! One term of an equation.
 ghost use Rattle.std.specs.Prelude.{◌≡◌};
 ghost use Rattle.spelling.specs.Lines.{sign, term_text};
 

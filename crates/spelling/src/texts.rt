@@ -1,4 +1,4 @@
-// What is printed, and how: first measured, and then written.
+//! What is printed, and how: first measured, and then written.
 ghost use Rattle.std.specs.Prelude.{◌≡◌, ℕ, List};
 ghost use Rattle.netlist.specs.Buffers.{filled};
 ghost use Rattle.spelling.specs.Rules.{judge_text, answer_text};

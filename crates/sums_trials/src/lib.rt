@@ -1,4 +1,4 @@
-// Trials of the sums that readings are checked by, on small rows and laws.
+//! Trials of the sums that readings are checked by, on small rows and laws.
 #![tactic(auto)]
 
 #[cfg(test)]
@@ -6,8 +6,8 @@ mod tests {
     use netlist::rows::Row;
     use netlist::terms::{Order, Term};
     use quantity::{Phasor, Quantity, Whole};
+    use reading_sums::{law_sum, net_flow, node_excess, reading, value_or_rate};
     use readings::equation_sum;
-    use sums::{law_sum, net_flow, node_excess, reading, value_or_rate};
 
     // From node 0 to node 1, from there to node 2, from node 2 to the earth, and from node 1 to itself.
     fn rows() -> [Row; 4] {

@@ -1,4 +1,4 @@
--- Groups of fields as slots, and from the lines of one form to all lines. Assumes nothing.
+-- Groups of fields as slots, and from the lines of one form to all lines.
 use Rattle.std.proofs.Common.{◌≡◌, ℕ, zero, suc, ◌-◌, ◌<◌, ◌≤◌, false, List, [], ◌∷◌, ◌++◌, length, get_or, take, sym, refl, subst, arith}
 use Rattle.text.specs.declared.kinds.Kind.{Kind}
 use Rattle.text.specs.Grammar.{Bytes, Matches, repeated, Grouped, groups, form, Rest, Allowed}

@@ -1,4 +1,4 @@
--- A scan from gap to gap, and the fault where it stops. Assumes nothing.
+-- A scan from gap to gap, and the fault where it stops.
 use Rattle.std.proofs.Common.{◌≡◌, ℕ, zero, suc, ◌+◌, ◌-◌, ◌<◌, ◌≤◌, Bool, true, false, List, [], ◌∷◌, ◌++◌, length, get_or, take, drop, sym, refl, ap, ◌∙◌, subst, ⊎_elim, append_assoc, append-nil, arith, length-drop, take-append-drop}
 use Rattle.std.specs.List.{between}
 use Rattle.std.proofs.lemmas.List.{take_all, take_more, drop_more, drop_all, take_rest, get_or-drop}

@@ -1,4 +1,4 @@
--- Pieces cut at a separator. Assumes nothing.
+-- Pieces cut at a separator.
 use Rattle.std.proofs.Common.{◌≡◌, ℕ, suc, ◌<◌, eqb, [], ◌∷◌, ◌++◌, length, get_or, refl, ap, ◌∙◌, arith}
 use Rattle.std.proofs.lemmas.Bool.{eq-eqb, ne_eqb, cond-true, cond-false}
 use Rattle.text.specs.Grammar.{Bytes}

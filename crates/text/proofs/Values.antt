@@ -1,4 +1,4 @@
--- A number digit by digit. Assumes nothing.
+-- A number digit by digit.
 use Rattle.std.proofs.Common.{◌≡◌, ℕ, ◌+◌, ◌-◌, ◌*◌, ◌^◌, ◌<◌, ◌≤◌, [], ◌∷◌, length, get_or, suc, min, ◌⊎◌, inl, inr, ⊎_elim, refl, ap, ◌∙◌, pow-suc, add-one, arith}
 use native.Mathlib.Nat.{pow-le-pow_right}
 use Rattle.std.specs.List.{fold}

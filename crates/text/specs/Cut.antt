@@ -1,4 +1,4 @@
--- Bytes, cut at each separator. Assumes nothing.
+-- Bytes, cut at each separator.
 use Rattle.std.specs.Prelude.{ℕ, cond, List, [], ◌∷◌, ◌==◌}
 use Rattle.text.specs.Grammar.{Bytes}
 

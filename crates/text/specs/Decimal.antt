@@ -1,4 +1,4 @@
--- The numbers that digits write. Assumes nothing.
+-- The numbers that digits write.
 use Rattle.std.specs.Prelude.{ℕ, ◌+◌, ◌-◌, ◌*◌, cond, [], ◌∷◌, ℤ, pos, neg_ℤ, ◌==◌}
 use Rattle.text.specs.Grammar.{Bytes}
 

@@ -1,4 +1,4 @@
--- The place where a line that is not allowed goes wrong. Assumes nothing.
+-- The place where a line that is not allowed goes wrong.
 use Rattle.std.specs.Prelude.{◌≡◌, ℕ, ◌+◌, ◌-◌, ◌≤◌, ◌++◌, length, take}
 use Rattle.text.specs.Grammar.{Bytes, Allowed}
 

@@ -1,4 +1,4 @@
--- The lines of a text. Assumes nothing.
+-- The lines of a text.
 use Rattle.std.specs.Prelude.{◌≡◌, ℕ, ◌+◌, ◌<◌, ◌≤◌, ◌⊎◌, List, [], ◌∷◌, ◌++◌, length, Option, MatchOption, ◌≢◌, slice_index}
 use Rattle.text.specs.declared.line.TextLine.{TextLine}
 use Rattle.text.specs.Grammar.{Bytes}

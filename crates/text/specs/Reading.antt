@@ -1,4 +1,4 @@
--- What the reader says of a line, and what its fields are. Assumes nothing.
+-- What the reader says of a line, and what its fields are.
 use Rattle.std.specs.Prelude.{◌≡◌, ℕ, ◌+◌, ◌<◌, ◌≤◌, List, [], ◌∷◌, length, drop, min, ℤ, pos, neg_ℤ, IfSome, Option, MatchOption, ◌≢◌, slice_index, slice_index_or}
 use Rattle.std.specs.List.{between}
 use Rattle.text.specs.declared.line.Field.{Field}

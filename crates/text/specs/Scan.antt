@@ -1,4 +1,4 @@
--- Where a scan of a line stands, for the contracts of the functions that scan. Assumes nothing.
+-- Where a scan of a line stands, for the contracts of the functions that scan.
 use Rattle.std.specs.Prelude.{◌≡◌, ℕ, zero, suc, ◌+◌, ◌<◌, ◌≤◌, Bool, true, false, ◌⊎◌, List, [], ◌∷◌, ◌++◌, length, take, Result, MatchResult, MatchBool, ◌≢◌, slice_index}
 use Rattle.text.specs.declared.kinds.Kind.{Kind}
 use Rattle.text.specs.declared.kinds.Kind.TheVariants.{Number, Coefficient}

@@ -1,4 +1,4 @@
-// Reading the fields of a line one by one, and their values.
+//! Reading the fields of a line one by one, and their values.
 ghost use Rattle.std.specs.Prelude.{min, ◌≡◌, ◌-◌, ◌^◌, ◌<◌, ◌≤◌, length};
 ghost use Rattle.std.specs.Iterator.{at_most};
 ghost use Rattle.text.specs.Decimal.{decimal};
@@ -28,8 +28,8 @@ impl<'a> Iterator for Fields<'a> {
 }
 
 impl Field<'_> {
-    // The number that at most seven digits write, leading zeros included, whatever the sign. What more digits
-    // write counts as 2^31 - 1 at most.
+    /// The number that at most seven digits write, leading zeros included, whatever the sign. What more digits
+    /// write counts as 2^31 - 1 at most.
     pub fn number(&self) -> u32
         ensures bound { result < 2 ^ 31 }
         ensures capped { result ≡ min (decimal (digits_of self.now)) 2147483647 }
@@ -40,7 +40,7 @@ impl Field<'_> {
         }
     }
 
-    // The same with its sign.
+    /// The same with its sign.
     pub fn coefficient(&self) -> i32
         ensures capped { result ≡ capped_value_of self.now }
         ensures exact { length (digits_of self.now) ≤ 7 → result ≡ value_of self.now }

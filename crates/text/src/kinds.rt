@@ -1,7 +1,7 @@
-// What follows the letter of a line.
+//! What follows the letter of a line.
 ghost use Rattle.std.specs.Prelude.{◌≤◌, length};
 
-// What a field holds: only a coefficient may have a minus in front.
+/// What a field holds: only a coefficient may have a minus in front.
 #[derive(Clone, Copy)]
 pub enum Kind {
     Number,

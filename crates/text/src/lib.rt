@@ -1,5 +1,5 @@
-// The lines of a sheet text: each is a part of the caller's bytes, and is either of an allowed form or
-// goes wrong at one exact column.
+//! The lines of a sheet text: each is a part of the caller's bytes, and is either of an allowed form or
+//! goes wrong at one exact column.
 #![tactic(auto)]
 
 mod fields;

@@ -1,4 +1,4 @@
-// Where a byte first stands.
+//! Where a byte first stands.
 ghost use Rattle.std.specs.Prelude.{◌≡◌, ℕ, ◌<◌, ◌≤◌, length, ◌≢◌, slice_index};
 
 // The place of the first such byte, or the end.

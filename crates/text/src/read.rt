@@ -1,4 +1,4 @@
-// Reading a line: its case, or where it goes wrong.
+//! Reading a line: its case, or where it goes wrong.
 ghost use Rattle.std.specs.Prelude.{◌≡◌, ◌≤◌, length, MatchResult, slice_index};
 ghost use Rattle.text.specs.Grammar.{Allowed, form, groups};
 ghost use Rattle.text.specs.Faults.{FaultAt};
@@ -22,7 +22,7 @@ fn fields_of<'a>(line: TextLine<'a>, shape: Shape) -> Result<Fields<'a>, Fault>
     })
 }
 
-// The line by its letter, or where it goes wrong.
+/// The line by its letter, or where it goes wrong.
 pub fn read_line<'a>(line: TextLine<'a>) -> Result<Line<'a>, Fault>
     ensures { MatchResult result (λ v. Allowed line.entry.bytes.now × Says line.entry v) (λ f. FaultAt Allowed line.entry.bytes.now f.column) }
 {

@@ -1,4 +1,4 @@
-// Skipping the fields of a line, up to the place where it goes wrong.
+//! Skipping the fields of a line, up to the place where it goes wrong.
 ghost use Rattle.std.specs.Prelude.{◌≡◌, ◌+◌, ◌<◌, ◌≤◌, Bool, true, false, List, ◌∷◌, length, MatchResult, slice_index};
 ghost use Rattle.text.specs.Grammar.{Allowed, form, groups};
 ghost use Rattle.text.specs.Faults.{FaultAt};

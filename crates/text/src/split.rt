@@ -1,4 +1,4 @@
-// The lines of a text, one by one.
+//! The lines of a text, one by one.
 ghost use Rattle.std.specs.Prelude.{◌≡◌, ℕ, ◌+◌, ◌^◌, ◌<◌, ◌≤◌, length, ◌≢◌, slice_index};
 ghost use Rattle.text.specs.Newlines.{LineStep, LineCount};
 ghost use Rattle.std.specs.Iterator.{at_most};
@@ -6,7 +6,7 @@ ghost use Rattle.std.specs.Iterator.{at_most};
 use super::line::TextLine;
 use super::places::place_of;
 
-// What is left of a text, and how many of its lines were taken.
+/// What is left of a text, and how many of its lines were taken.
 #[derive(Drop)]
 pub struct TextLines<'a> {
     rest: &'a [u8],
@@ -15,7 +15,7 @@ pub struct TextLines<'a> {
     ghost fits: { taken + length rest.now < 2 ^ 64 },
 }
 
-// The lines of the text, with their numbers.
+/// The lines of the text, with their numbers.
 pub fn lines<'a>(text: &'a [u8]) -> TextLines<'a>
     ensures { (result.rest.now ≡ text.now) × (result.taken ≡ 0) }
 {
@@ -49,7 +49,7 @@ impl<'a> Iterator for TextLines<'a> {
     }
 }
 
-// How many lines the text has.
+/// How many lines the text has.
 pub fn count_lines(text: &[u8]) -> usize
     ensures { LineCount text.now result }
 {

@@ -1,4 +1,4 @@
--- The first line of a list that is not allowed. Assumes nothing.
+-- The first line of a list that is not allowed.
 use Rattle.std.specs.Prelude.{◌≡◌, ℕ, ◌+◌, ◌⊎◌, List, [], ◌∷◌, IfSome, Option, MatchOption}
 use Rattle.text.specs.Grammar.{Bytes, Allowed}
 use Rattle.commands.specs.Lines.{Faulty}

@@ -1,4 +1,4 @@
-// Trials of the reader of sheet texts: a walk over a whole text, and tables of lines, with what is read from each.
+//! Trials of the reader of sheet texts: a walk over a whole text, and tables of lines, with what is read from each.
 #![tactic(auto)]
 
 #[cfg(test)]

@@ -1,4 +1,4 @@
--- Rows that are judged fit name drawn nodes only. Assumes nothing.
+-- Rows that are judged fit name drawn nodes only.
 use Rattle.std.proofs.Common.{◌≡◌, ℕ, ◌+◌, ◌<◌, ◌≤◌, false, not, ◌&&◌, nat_lt, List, length, Ok, arith}
 use Rattle.std.specs.List.{position_or_len}
 use Rattle.std.proofs.lemmas.Bool.Decides.{nat_tests}

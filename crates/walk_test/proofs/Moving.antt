@@ -1,4 +1,4 @@
--- A part moves vertex by vertex. Assumes nothing.
+-- A part moves vertex by vertex.
 use Rattle.std.proofs.Common.{◌≡◌, ℕ, zero, suc, ◌+◌, ◌<◌, ◌≤◌, ◌≢◌, List, length, get_or, slice_index, set, sym, refl, ap, ◌∙◌, add-one, arith, below_more, get_or-set_same, get_or-set_other}
 use Rattle.quantity.specs.Group.{Group}
 use Rattle.network.specs.Settled.{Moved}

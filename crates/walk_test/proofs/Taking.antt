@@ -1,7 +1,7 @@
--- One row more is taken to those before, in lists of labels and potentials. Assumes nothing.
+-- One row more is taken to those before, in lists of labels and potentials.
 use Rattle.std.proofs.Common.{◌≡◌, ℕ, ◌+◌, ◌<◌, Bool, Decides, MatchBool, List, length, slice_index, sym, ap, ◌∙◌, subst, subst₂, arith}
 use Rattle.quantity.specs.Group.{Group, minus}
-use Rattle.network.specs.Walks.{Network, Within, Unbalanced}
+use Rattle.network.specs.Walks.{Network, Within, SomeWalkFails}
 use Rattle.network.specs.Settled.{Settled, gap_at}
 use Rattle.network.proofs.Settling.{row_decides, tail_joins, head_joins}
 use Rattle.walk_test.specs.Joining.{SettledBy, MovedBy}
@@ -30,7 +30,7 @@ module _ {G : Type 0} (𝓖 : Group G) (R : Network G) (k : ℕ) (labels : List 
     head_label = ap label head
 
     -- a row inside a part fits, or closes a walk that does not add to zero
-    pub row_tells : label a ≡ label b → (fits : Bool) → Decides fits (x ≡ 𝓖.zero) → MatchBool fits (SettledBy 𝓖 R (k + 1) labels potentials) (Unbalanced 𝓖 R (k + 1))
+    pub row_tells : label a ≡ label b → (fits : Bool) → Decides fits (x ≡ 𝓖.zero) → MatchBool fits (SettledBy 𝓖 R (k + 1) labels potentials) (SomeWalkFails 𝓖 R (k + 1))
     row_tells same fits decides =
         let ends = within k (omega arith) in
         row_decides 𝓖 R n k label p settled ends.0 ends.1

@@ -1,4 +1,4 @@
--- Whether each node that rows name has a potential. Assumes nothing.
+-- Whether each node that rows name has a potential.
 use Rattle.std.specs.Prelude.{ℕ, Bool, not, ◌&&◌, nat_lt, if◌then◌else◌, List, position, Option, Some, None, Result, Ok, Err}
 use Rattle.netlist.specs.declared.rows.Row.{Row}
 use Rattle.netlist.specs.declared.rows.Row.TheVariants.{Branch, Earth}

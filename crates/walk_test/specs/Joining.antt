@@ -1,4 +1,4 @@
--- Labels and potentials that are listed, while rows are joined to those before. Assumes nothing.
+-- Labels and potentials that are listed, while rows are joined to those before.
 use Rattle.std.specs.Prelude.{ℕ, ◌+◌, List, length, slice_index}
 use Rattle.quantity.specs.Group.{Group}
 use Rattle.network.specs.Walks.{Network}

@@ -1,4 +1,4 @@
--- Potentials that are listed, one for each node. Assumes nothing.
+-- Potentials that are listed, one for each node.
 use Rattle.std.specs.Prelude.{ℕ, List, ◌∷◌}
 use Rattle.quantity.specs.Group.{Group}
 use Rattle.network.specs.Walks.{read}

@@ -1,10 +1,10 @@
--- What the walk test answers, and what the potentials are then. Assumes nothing.
+-- What the walk test answers, and what the potentials are then.
 use Rattle.std.specs.Prelude.{◌≡◌, ℕ, ◌+◌, List, length, replicate, Result, Ok, Err}
 use Rattle.quantity.specs.Group.{Group}
 use Rattle.netlist.specs.declared.rows.Row.{Row}
 use Rattle.network.specs.Walks.{Network, row_at, tail_of, head_of, Solved, Refuted}
 use Rattle.walk_test.specs.declared.findings.Finding.{Finding}
-use Rattle.walk_test.specs.declared.findings.Finding.TheVariants.{Balanced, Unbalanced}
+use Rattle.walk_test.specs.declared.findings.Finding.TheVariants.{WalksClose, SomeWalkFails}
 use Rattle.walk_test.specs.declared.findings.Misfit.{Misfit}
 use Rattle.walk_test.specs.Drawn.{judged}
 use Rattle.walk_test.specs.Potentials.{potential_at}
@@ -16,8 +16,8 @@ network_with rows reading = record { tail = λ j. tail_of (row_at rows j); head 
 -- the potentials are the one filling of the nodes for the first m rows, so that every closed walk along them adds to zero;
 -- or row k is the lowest with which some closed walk does not, and every potential is zero
 abbrev pub Found : {G : Type 0} → Group G → Network G → ℕ → List G → Finding → Type 0
-Found 𝓖 R m potentials Balanced = Solved 𝓖 R (length potentials + 1) m (potential_at 𝓖 potentials)
-Found 𝓖 R m potentials (Unbalanced k) = Refuted 𝓖 R m k × (potentials ≡ replicate (length potentials) 𝓖.zero)
+Found 𝓖 R m potentials WalksClose = Solved 𝓖 R (length potentials + 1) m (potential_at 𝓖 potentials)
+Found 𝓖 R m potentials (SomeWalkFails k) = Refuted 𝓖 R m k × (potentials ≡ replicate (length potentials) 𝓖.zero)
 
 -- a finding about rows that fit, with one potential for each node as before; or why they do not, and then no potential has changed
 abbrev pub Tested : {G : Type 0} → Group G → List (Row ℕ) → Network G → List G → List G → Result Finding Misfit → Type 0

@@ -1,4 +1,4 @@
-// Where the across readings of rows come from.
+//! Where the across readings of rows come from.
 ghost use Rattle.std.specs.Prelude.{◌≡◌, ℕ};
 ghost use Rattle.netlist.specs.Rows.{across_of};
 ghost use Rattle.netlist.specs.declared.rows.Row.{Row};
@@ -7,7 +7,7 @@ ghost use Rattle.network.specs.Walks.{read};
 use netlist::rows::Row;
 use quantity::Quantity;
 
-// Readings from which each row has its across reading, told by the row's number and by the row.
+/// Readings from which each row has its across reading, told by the row's number and by the row.
 pub trait Across<K> {
     ghost reading: { Self → ℕ → Row ℕ → K };
 
@@ -15,8 +15,8 @@ pub trait Across<K> {
         ensures { result ≡ reading self.now k row };
 }
 
-// One reading for each variable: a row has the reading of its across variable. A variable beyond the list
-// reads zero.
+/// One reading for each variable: a row has the reading of its across variable. A variable beyond the list
+/// reads zero.
 #[derive(Clone, Copy)]
 pub struct ByVariable<'a, K> {
     pub values: &'a [K],

@@ -1,4 +1,4 @@
-// The vertices that a row leads between. Vertex 0 is the common earth point, and vertex n + 1 is node n.
+//! The vertices that a row leads between. Vertex 0 is the common earth point, and vertex n + 1 is node n.
 ghost use Rattle.std.specs.Prelude.{◌≡◌, ◌^◌, ◌<◌};
 ghost use Rattle.network.specs.Walks.{tail_of, head_of};
 ghost use Rattle.walk_test.specs.Drawn.{is_drawn};

@@ -1,19 +1,19 @@
-// What the walk test answers.
+//! What the walk test answers.
 
-// What it finds of rows and their readings.
+/// What it finds of rows and their readings.
 #[derive(Clone, Copy, PartialEq, Eq, Debug)]
 pub enum Finding {
-    // Every closed walk adds up to zero.
-    Balanced,
-    // The lowest row such that the rows up to it have a closed walk that does not add up to zero.
-    Unbalanced { row: usize },
+    /// Every closed walk adds up to zero.
+    WalksClose,
+    /// The lowest row such that the rows up to it have a closed walk that does not add up to zero.
+    SomeWalkFails { row: usize },
 }
 
-// Why it does not begin.
+/// Why it does not begin.
 #[derive(Clone, Copy, PartialEq, Eq, Debug)]
 pub enum Misfit {
-    // There are more potentials than a workspace serves.
+    /// There are more potentials than a workspace serves.
     TooMany,
-    // The lowest row that names a node which has no potential.
+    /// The lowest row that names a node which has no potential.
     Undrawn { row: usize },
 }

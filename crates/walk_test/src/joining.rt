@@ -1,8 +1,8 @@
-// Rows are taken one by one to those before, and join the parts that they lead between.
-// Each vertex is labelled with the lowest of its part, and has its potential against that one.
+//! Rows are taken one by one to those before, and join the parts that they lead between.
+//! Each vertex is labelled with the lowest of its part, and has its potential against that one.
 ghost use Rattle.std.specs.Prelude.{◌≡◌, ◌≢◌, ◌+◌, ◌<◌, length, MatchBool, slice_index};
 ghost use Rattle.quantity.specs.Group.{minus};
-ghost use Rattle.network.specs.Walks.{Drawn, Unbalanced};
+ghost use Rattle.network.specs.Walks.{Drawn, SomeWalkFails};
 ghost use Rattle.walk_test.specs.Joining.{SettledBy, MovedBy};
 ghost use Rattle.walk_test.specs.Potentials.{potential_at};
 ghost use Rattle.walk_test.specs.Tested.{network_with};
@@ -71,7 +71,7 @@ pub(crate) fn join<K: Quantity, A: Across<K>>(
     requires vertices { length potentials.old < length labels.old }
     requires settled { SettledBy K.group (network_with rows.now (A.reading across.now)) k labels.old potentials.old }
     ensures { let R = network_with rows.now (A.reading across.now) in
-        MatchBool result (SettledBy K.group R (k + 1) labels.new potentials.new) (Unbalanced K.group R (k + 1)) }
+        MatchBool result (SettledBy K.group R (k + 1) labels.new potentials.new) (SomeWalkFails K.group R (k + 1)) }
 {
     let row = rows[k];
     let ends = Ends::of(row);

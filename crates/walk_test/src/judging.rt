@@ -1,4 +1,4 @@
-// Whether the walk test can begin.
+//! Whether the walk test can begin.
 ghost use Rattle.std.specs.Prelude.{◌≡◌};
 ghost use Rattle.walk_test.specs.Drawn.{first_undrawn, judged};
 

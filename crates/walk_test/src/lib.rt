@@ -1,4 +1,4 @@
-// The walk test: whether every closed walk along rows adds up to zero, and the potentials if so.
+//! The walk test: whether every closed walk along rows adds up to zero, and the potentials if so.
 #![tactic(auto)]
 
 mod across;

@@ -1,11 +1,11 @@
-// Where the walk test starts: no row is taken yet.
+//! Where the walk test starts: no row is taken yet.
 ghost use Rattle.std.specs.Prelude.{◌≡◌, ◌<◌, length, replicate, EachIndex, slice_index};
 ghost use Rattle.network.specs.Walks.{Network};
 ghost use Rattle.walk_test.specs.Joining.{SettledBy};
 
 use quantity::Quantity;
 
-// Sets every potential to zero.
+/// Sets every potential to zero.
 pub fn clear<K: Quantity>(potentials: &mut [K])
     ensures { potentials.new ≡ replicate (length potentials.old) K.group.zero }
 {

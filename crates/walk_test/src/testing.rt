@@ -1,4 +1,4 @@
-// The walk test of rows and their readings.
+//! The walk test of rows and their readings.
 ghost use Rattle.std.specs.Prelude.{◌≡◌, ◌<◌, length};
 ghost use Rattle.network.specs.Walks.{Drawn};
 ghost use Rattle.walk_test.specs.Tested.{network_with, Found, Tested, OneAnswer};
@@ -27,15 +27,15 @@ fn take_rows<K: Quantity, A: Across<K>>(
     for k in 0..rows.len() {
         if !join(rows, across, k, labels, potentials) {
             clear(potentials);
-            return Finding::Unbalanced { row: k };
+            return Finding::SomeWalkFails { row: k };
         }
     }
-    Finding::Balanced
+    Finding::WalksClose
 }
 
-// Tells whether every closed walk along the rows adds up to zero. If so, the potentials are filled, one for
-// each node: they satisfy the rows, with zero at the earth point and at the lowest node of each part without
-// an earth, and nothing else does. If not, they are all zero. A misfit changes nothing.
+/// Tells whether every closed walk along the rows adds up to zero. If so, the potentials are filled, one for
+/// each node: they satisfy the rows, with zero at the earth point and at the lowest node of each part without
+/// an earth, and nothing else does. If not, they are all zero. A misfit changes nothing.
 pub fn test_walks<K: Quantity, A: Across<K>>(
     rows: &[Row],
     across: &A,
@@ -48,8 +48,8 @@ pub fn test_walks<K: Quantity, A: Across<K>>(
     Ok(take_rows(rows, across, &mut workspace.labels, potentials))
 }
 
-// `test_walks` is left no choice: rows and their readings have one answer, and one list of potentials goes
-// with it. This computes nothing: the theorem is the contract.
+/// `test_walks` is left no choice: rows and their readings have one answer, and one list of potentials goes
+/// with it. This computes nothing: the theorem is the contract.
 pub fn one_answer<K: Quantity>()
     ensures { OneAnswer K.group }
 {}

@@ -1,12 +1,12 @@
-// What the walk test works in.
+//! What the walk test works in.
 use std::alloc::{AllocError, Global};
 use std::marker::Model;
 
-// The most nodes that a sheet has.
+/// The most nodes that a sheet has.
 pub const MAX_NODES: usize = 1000;
 
-// Memory for the labels of the earth point and of the nodes of the largest sheet. It is made once, and used
-// again for every set of readings.
+/// Memory for the labels of the earth point and of the nodes of the largest sheet. It is made once, and used
+/// again for every set of readings.
 #[derive(Drop)]
 pub struct Workspace {
     pub(crate) labels: Vec<usize>,

@@ -1,4 +1,4 @@
-// Trials of the walk test: small sheets, readings by row, and the largest sheet.
+//! Trials of the walk test: small sheets, readings by row, and the largest sheet.
 #![tactic(auto)]
 
 #[cfg(test)]

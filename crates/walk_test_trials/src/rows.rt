@@ -1,4 +1,4 @@
-// Rows, and readings that are listed one for each.
+//! Rows, and readings that are listed one for each.
 ghost use Rattle.std.specs.Prelude.{◌≡◌};
 ghost use Rattle.network.specs.Walks.{read};
 
@@ -6,7 +6,7 @@ use netlist::rows::Row;
 use quantity::Quantity;
 use walk_test::Across;
 
-// A flow plays no part in the walk test.
+/// A flow plays no part in the walk test.
 pub fn branch(across: usize, first: usize, second: usize) -> Row {
     Row::Branch {
         flow: 0,
@@ -24,7 +24,7 @@ pub fn earth(across: usize, node: usize) -> Row {
     }
 }
 
-// One reading for each row, in row order.
+/// One reading for each row, in row order.
 #[derive(Clone, Copy)]
 pub struct ByRow<'a, K> {
     pub readings: &'a [K],

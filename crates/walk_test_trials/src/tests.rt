@@ -1,4 +1,4 @@
-// What the walk test finds.
+//! What the walk test finds.
 use super::rows::{ByRow, branch, earth};
 use netlist::rows::Row;
 use quantity::{Phasor, Whole};
@@ -17,7 +17,7 @@ fn triangle_fits(rt: HostRuntime) -> Result<(), Fail> {
     let across = ByVariable { values: &values };
     let mut potentials = [Whole::new(5); 3];
     let found = test_walks(&triangle(), &across, &mut potentials, &mut workspace);
-    assert_eq!(rt; found, Ok(Finding::Balanced));
+    assert_eq!(rt; found, Ok(Finding::WalksClose));
     assert_eq!(rt; potentials, [Whole::new(0), Whole::new(-3), Whole::new(-7)]);
     Ok(())
 }
@@ -30,12 +30,12 @@ fn triangle_is_left_open_and_then_closed(rt: HostRuntime) -> Result<(), Fail> {
     let across = ByVariable { values: &values };
     let mut potentials = [Whole::new(5); 3];
     let found = test_walks(&triangle(), &across, &mut potentials, &mut workspace);
-    assert_eq!(rt; found, Ok(Finding::Unbalanced { row: 2 }));
+    assert_eq!(rt; found, Ok(Finding::SomeWalkFails { row: 2 }));
     assert_eq!(rt; potentials, [Whole::new(0); 3]);
     let values = [Whole::new(3), Whole::new(4), Whole::new(7)];
     let across = ByVariable { values: &values };
     let found = test_walks(&triangle(), &across, &mut potentials, &mut workspace);
-    assert_eq!(rt; found, Ok(Finding::Balanced));
+    assert_eq!(rt; found, Ok(Finding::WalksClose));
     assert_eq!(rt; potentials, [Whole::new(0), Whole::new(-3), Whole::new(-7)]);
     Ok(())
 }
@@ -54,7 +54,7 @@ fn rows_behind_do_not_matter(rt: HostRuntime) -> Result<(), Fail> {
     let across = ByVariable { values: &values };
     let mut potentials = [Whole::new(5); 3];
     let found = test_walks(&rows, &across, &mut potentials, &mut workspace);
-    assert_eq!(rt; found, Ok(Finding::Unbalanced { row: 1 }));
+    assert_eq!(rt; found, Ok(Finding::SomeWalkFails { row: 1 }));
     assert_eq!(rt; potentials, [Whole::new(0); 3]);
     Ok(())
 }
@@ -68,10 +68,10 @@ fn earths_are_one_point(rt: HostRuntime) -> Result<(), Fail> {
     let across = ByVariable { values: &values };
     let mut potentials = [Whole::new(5); 2];
     let found = test_walks(&rows[..3], &across, &mut potentials, &mut workspace);
-    assert_eq!(rt; found, Ok(Finding::Balanced));
+    assert_eq!(rt; found, Ok(Finding::WalksClose));
     assert_eq!(rt; potentials, [Whole::new(10), Whole::new(7)]);
     let found = test_walks(&rows, &across, &mut potentials, &mut workspace);
-    assert_eq!(rt; found, Ok(Finding::Unbalanced { row: 3 }));
+    assert_eq!(rt; found, Ok(Finding::SomeWalkFails { row: 3 }));
     assert_eq!(rt; potentials, [Whole::new(0); 2]);
     Ok(())
 }
@@ -85,7 +85,7 @@ fn each_part_has_its_lowest_node_at_zero(rt: HostRuntime) -> Result<(), Fail> {
     let across = ByVariable { values: &values };
     let mut potentials = [Whole::new(5); 5];
     let found = test_walks(&rows, &across, &mut potentials, &mut workspace);
-    assert_eq!(rt; found, Ok(Finding::Balanced));
+    assert_eq!(rt; found, Ok(Finding::WalksClose));
     assert_eq!(rt;
         potentials,
         [
@@ -112,9 +112,9 @@ fn a_loop_must_read_zero(rt: HostRuntime) -> Result<(), Fail> {
         &mut potentials,
         &mut workspace,
     );
-    assert_eq!(rt; found, Ok(Finding::Unbalanced { row: 1 }));
+    assert_eq!(rt; found, Ok(Finding::SomeWalkFails { row: 1 }));
     let found = test_walks(&[branch(1, 0, 0)], &across, &mut potentials, &mut workspace);
-    assert_eq!(rt; found, Ok(Finding::Balanced));
+    assert_eq!(rt; found, Ok(Finding::WalksClose));
     Ok(())
 }
 
@@ -146,10 +146,10 @@ fn readings_may_be_listed_by_row(rt: HostRuntime) -> Result<(), Fail> {
     let mut potentials = [Phasor::new(5, 5); 2];
     let rows = [branch(0, 0, 1), branch(0, 0, 1)];
     let found = test_walks(&rows[..1], &across, &mut potentials, &mut workspace);
-    assert_eq!(rt; found, Ok(Finding::Balanced));
+    assert_eq!(rt; found, Ok(Finding::WalksClose));
     assert_eq!(rt; potentials, [Phasor::new(0, 0), Phasor::new(-1, -2)]);
     let found = test_walks(&rows, &across, &mut potentials, &mut workspace);
-    assert_eq!(rt; found, Ok(Finding::Unbalanced { row: 1 }));
+    assert_eq!(rt; found, Ok(Finding::SomeWalkFails { row: 1 }));
     clear(&mut potentials);
     assert_eq!(rt; potentials, [Phasor::new(0, 0); 2]);
     Ok(())
@@ -177,7 +177,7 @@ fn the_largest_sheet_fits(rt: HostRuntime) -> Result<(), Fail> {
     let across = ByVariable { values: &values };
     let mut potentials = [Whole::new(5); MAX_NODES];
     let found = test_walks(&rows, &across, &mut potentials, &mut workspace);
-    assert_eq!(rt; found, Ok(Finding::Balanced));
+    assert_eq!(rt; found, Ok(Finding::WalksClose));
     assert_eq!(rt; potentials[0], Whole::new(0));
     assert_eq!(rt; potentials[1], Whole::new(7));
     assert_eq!(rt; potentials[999], Whole::new(6993));

@@ -1,4 +1,4 @@
-// What has passed is added to a draft. Each step keeps what a draft keeps to.
+//! What has passed is added to a draft. Each step keeps what a draft keeps to.
 ghost use Rattle.std.specs.Prelude.{◌≡◌, ◌+◌, ◌<◌, ◌≤◌, [], ◌∷◌, ◌++◌, length, None};
 ghost use Rattle.netlist.specs.Domains.{domain_number};
 ghost use Rattle.netlist.specs.Netlist.{with_nodes, with_variables, with_rows};

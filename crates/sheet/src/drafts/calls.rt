@@ -1,5 +1,5 @@
-// The calls that fill a draft. Each answers a number, or the first refusal that applies, and then
-// leaves the draft as it was.
+//! The calls that fill a draft. Each answers a number, or the first refusal that applies, and then
+//! leaves the draft as it was.
 ghost use Rattle.std.specs.Prelude.{◌≡◌, IfOk};
 ghost use Rattle.netlist.specs.declared.rows.Row.TheVariants.{Branch, Earth};
 ghost use Rattle.netlist.specs.Netlist.{empty};
@@ -14,7 +14,7 @@ use netlist::terms::RawTerm;
 use std::alloc::{AllocError, Global};
 
 impl Draft {
-    // An empty draft, with the memory for all that it may come to hold.
+    /// An empty draft, with the memory for all that it may come to hold.
     pub fn new(heap: Global) -> Result<Draft, AllocError>
         ensures { IfOk result (λ d. d ≡ empty) }
     {
@@ -26,8 +26,8 @@ impl Draft {
         })
     }
 
-    // Draws a node of the domain of this number, and answers the node's number. It takes any number, since
-    // to refuse a wrong one is its part.
+    /// Draws a node of the domain of this number, and answers the node's number. It takes any number, since
+    /// to refuse a wrong one is its part.
     #[tactic(auto, using(netlist::proofs::Rooms::no_node_left, netlist::proofs::Rooms::node_left, crate::proofs::Sizes::node_count))]
     pub fn node(&mut self, domain: u32) -> Result<usize, Refusal>
         ensures answer { result ≡ answer_node self.old domain }
@@ -48,7 +48,7 @@ impl Draft {
         Ok(node)
     }
 
-    // Draws `count` variables, and answers the number of the first.
+    /// Draws `count` variables, and answers the number of the first.
     pub fn variables(&mut self, count: usize) -> Result<usize, Refusal>
         ensures answer { result ≡ answer_variables self.old count }
         ensures netlist { self.new ≡ after_variables self.old count }
@@ -63,8 +63,8 @@ impl Draft {
         Ok(first)
     }
 
-    // Draws a branch from its first node to its second, and answers its row number. Each variable and node is
-    // an argument of its own, since a refusal tells its place among them.
+    /// Draws a branch from its first node to its second, and answers its row number. Each variable and node is
+    /// an argument of its own, since a refusal tells its place among them.
     pub fn branch(
         &mut self,
         flow: usize,
@@ -83,7 +83,7 @@ impl Draft {
         })
     }
 
-    // Draws an earth at a node, and answers its row number.
+    /// Draws an earth at a node, and answers its row number.
     pub fn earth(&mut self, flow: usize, across: usize, node: usize) -> Result<usize, Refusal>
         ensures answer { result ≡ answer_row self.old (Earth flow across node) }
         ensures netlist { self.new ≡ after_row self.old (Earth flow across node) }
@@ -101,7 +101,7 @@ impl Draft {
         Ok(number)
     }
 
-    // Adds the law that these terms add up to zero, and answers its number.
+    /// Adds the law that these terms add up to zero, and answers its number.
     pub fn law(&mut self, terms: &[RawTerm]) -> Result<usize, Refusal>
         ensures answer { result ≡ answer_law self.old terms.now }
         ensures netlist { self.new ≡ after_law self.old terms.now }

@@ -1,4 +1,4 @@
-// How much a draft holds, and what it has room for.
+//! How much a draft holds, and what it has room for.
 ghost use Rattle.std.specs.Prelude.{◌≡◌};
 ghost use Rattle.netlist.specs.Rules.{first_of};
 ghost use Rattle.netlist.specs.Sound.{Sound};
@@ -10,7 +10,7 @@ use crate::drafts::{Draft, MAX_NODES, MAX_ROWS, MAX_VARIABLES};
 use netlist::refusals::{Refusal, Table};
 
 impl Draft {
-    // How much has been drawn, with what every draft keeps to.
+    /// How much has been drawn, with what every draft keeps to.
     #[tactic(auto, using(crate::proofs::Whole::draft_sound, crate::proofs::Sizes::node_count))]
     pub fn counts(&self) -> Counts
         ensures value { result ≡ counts_of self.now }
@@ -24,8 +24,8 @@ impl Draft {
         }
     }
 
-    // Whether so much more finds room, with so many terms in its laws: if not, which is the first table
-    // whose limit would be passed.
+    /// Whether so much more finds room, with so many terms in its laws: if not, which is the first table
+    /// whose limit would be passed.
     #[tactic(auto, using(crate::proofs::Sizes::node_count))]
     pub fn judge_room(&self, more: Counts, terms: usize) -> Result<(), Refusal>
         ensures { Tells (first_of (room_tests self.now more terms)) result }

@@ -1,4 +1,4 @@
-// A sheet: a draft that is issued, and changes no more.
+//! A sheet: a draft that is issued, and changes no more.
 ghost use Rattle.std.specs.Prelude.{◌≡◌, length};
 ghost use Rattle.netlist.specs.Pieces.{pieces};
 ghost use Rattle.netlist.specs.Sound.{Sound};
@@ -8,7 +8,7 @@ pub use crate::drafts::views::LawView;
 use netlist::rows::Row;
 use std::marker::Model;
 
-// A sheet moves as a draft does. There is no way back to a draft.
+/// A sheet moves as a draft does. There is no way back to a draft.
 #[derive(Drop)]
 pub struct Sheet {
     draft: Draft,
@@ -27,7 +27,7 @@ impl Model for Sheet {
 }
 
 impl Draft {
-    // Ends the draft. It is never refused.
+    /// Ends the draft. It is never refused.
     #[tactic(auto, using(crate::proofs::Whole::draft_sound))]
     pub fn issue(self) -> Sheet
         ensures netlist { result ≡ self }
@@ -41,7 +41,7 @@ impl Draft {
 
 // A draft is read through a reference of its own, since a proof opens a model at a variable.
 impl Sheet {
-    // How many nodes there are.
+    /// How many nodes there are.
     #[tactic(auto, using(crate::proofs::Sizes::node_count))]
     pub fn nodes(&self) -> usize
         ensures { result ≡ length self.now.domains }
@@ -50,7 +50,7 @@ impl Sheet {
         draft.domains.len()
     }
 
-    // How many variables there are.
+    /// How many variables there are.
     pub fn variables(&self) -> usize
         ensures { result ≡ self.now.variables }
     {
@@ -58,7 +58,7 @@ impl Sheet {
         draft.taken.len()
     }
 
-    // The rows, with what every sheet keeps to.
+    /// The rows, with what every sheet keeps to.
     pub fn rows(&self) -> &[Row]
         ensures value { result.now ≡ self.now.rows }
         ensures sound { Sound self.now }
@@ -67,7 +67,7 @@ impl Sheet {
         draft.rows.as_slice()
     }
 
-    // The laws, one after another.
+    /// The laws, one after another.
     pub fn laws(&self) -> LawView<'_>
         ensures value { pieces result.lengths.now result.terms.now ≡ self.now.laws }
     {

@@ -1,4 +1,4 @@
-// Rows and laws are judged before they are added. A `LawTable` judges its own room.
+//! Rows and laws are judged before they are added. A `LawTable` judges its own room.
 ghost use Rattle.netlist.specs.Rules.{taken_by};
 
 use crate::drafts::{Draft, MAX_ROWS};

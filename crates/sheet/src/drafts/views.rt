@@ -1,10 +1,10 @@
-// The laws of a sheet, as a reader sees them.
+//! The laws of a sheet, as a reader sees them.
 ghost use Rattle.std.specs.Prelude.{◌≡◌, length};
 ghost use Rattle.netlist.specs.Pieces.{total};
 
 use netlist::terms::Term;
 
-// The laws of a sheet: their terms, one law after another, and how many terms each has.
+/// The laws of a sheet: their terms, one law after another, and how many terms each has.
 #[derive(Clone, Copy)]
 pub struct LawView<'a> {
     pub lengths: &'a [usize],
@@ -12,7 +12,7 @@ pub struct LawView<'a> {
     ghost cut: { total lengths.now ≡ length terms.now },
 }
 
-// The laws that are left, each by its terms.
+/// The laws that are left, each by its terms.
 #[derive(Drop)]
 pub struct LawIter<'a> {
     rest: LawView<'a>,
@@ -23,7 +23,7 @@ impl<'a> LawView<'a> {
     ghost use Rattle.netlist.specs.Netlist.{term_count};
     ghost use Rattle.sheet.specs.Views.{laws_in, laws_left};
 
-    // How many laws there are.
+    /// How many laws there are.
     #[tactic(auto, using(netlist::proofs::Cuts::length_pieces))]
     pub fn len(&self) -> usize
         ensures { result ≡ length (laws_in self.now) }
@@ -31,7 +31,7 @@ impl<'a> LawView<'a> {
         self.lengths.len()
     }
 
-    // How many terms they have together.
+    /// How many terms they have together.
     #[tactic(auto, using(netlist::proofs::Cuts::count_pieces))]
     pub fn term_count(&self) -> usize
         ensures { result ≡ term_count (laws_in self.now) }
@@ -39,14 +39,14 @@ impl<'a> LawView<'a> {
         self.terms.len()
     }
 
-    // The terms of law `k`, if there is one.
+    /// The terms of law `k`, if there is one.
     pub fn law(&self, k: usize) -> Option<&'a [Term]>
         ensures { let laws = laws_in self.now in MatchOption result (length laws ≤ k) (λ law. (k < length laws) × (law.now ≡ slice_index_or laws k [])) }
     {
         self.iter().nth(k)
     }
 
-    // The laws one by one, each by its terms.
+    /// The laws one by one, each by its terms.
     pub fn iter(&self) -> LawIter<'a>
         ensures { laws_left result ≡ laws_in self.now }
     {

@@ -1,4 +1,4 @@
-// What is asked of the tables of laws, and how a law that has passed is stored.
+//! What is asked of the tables of laws, and how a law that has passed is stored.
 ghost use Rattle.std.specs.Prelude.{◌≡◌, ◌+◌, true, [], ◌∷◌, ◌++◌, length, IfOk, None};
 ghost use Rattle.netlist.specs.Netlist.{term_count};
 ghost use Rattle.netlist.specs.Rules.{first_of, room_law};

@@ -1,7 +1,0 @@
-use Rattle.std.proofs.Common.{◌≡◌, take}
-use Rattle.acceptance.specs.Entering.{entered}
-use Rattle.acceptance.proofs.calls.run.Given as goal
-
--- the calls before this one are made
-abbrev pub invariant-loop-call : goal.invariant-loop-call
-invariant-loop-call g l = l.draft ≡ entered g.A.Assembly.meaning l.fn.draft (take l.call-index l.calls)

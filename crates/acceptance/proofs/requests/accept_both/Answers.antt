@@ -1,8 +1,0 @@
-use Rattle.acceptance.proofs.Parts.{both_or_neither}
-use Rattle.acceptance.proofs.requests.accept_both.Goals as goal
-
-pub returns : goal.returns
-returns g c =
-    let first = c.accept-one.ensures.agreement in
-    let second = c.accept-other.ensures.agreement in
-    record { first = first; second = second; together = both_or_neither first second }

@@ -1,5 +1,0 @@
-use Rattle.exact.proofs.Exactness.{small_is_exact}
-use Rattle.exact.proofs.all_small.Goals as goal
-
-pub returns-clause-exact : goal.returns-clause-exact
-returns-clause-exact c = small_is_exact

@@ -1,5 +1,0 @@
-use Rattle.plants.proofs.Agreeing.{parts_agree}
-use Rattle.plants.proofs.parts_agree.Goals as goal
-
-pub returns : goal.returns
-returns g c = parts_agree g.K.Quantity.group

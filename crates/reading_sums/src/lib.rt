@@ -1,0 +1,10 @@
+//! The sums that readings are checked by, for every kind of quantity: of a law, at a node and out of a set of nodes.
+#![tactic(auto)]
+
+mod flows;
+mod laws;
+mod lookup;
+
+pub use flows::{net_flow, node_excess};
+pub use laws::{law_sum, value_or_rate};
+pub use lookup::reading;
