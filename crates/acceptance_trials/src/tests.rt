@@ -3,7 +3,7 @@ use super::crane::{LADDER, RUNG, calls, calls_again, law};
 use agreement::{Request, accept, accept_both};
 use checking::Verdict;
 use equation::listing::Listing;
-use netlist::refusals::Refusal;
+use draft::refusals::Refusal;
 use netlist::spans::Span;
 use netlist::terms::{Order, Term};
 use parts::either::Either;

@@ -1,7 +1,7 @@
 -- The parts of an agreement, from what is answered on the way.
 use Rattle.std.proofs.Common.{◌≡◌, List, length, None, Option, Ok, Err, Result, refl, ap, subst}
 use Rattle.quantity.specs.Group.{Group}
-use Rattle.netlist.specs.declared.refusals.Refusal.{Refusal}
+use Rattle.draft.specs.declared.refusals.Refusal.{Refusal}
 use Rattle.netlist.specs.Buffers.{filled}
 use Rattle.netlist.specs.Netlist.{Netlist}
 use Rattle.netlist.specs.Pieces.{flat}

@@ -3,7 +3,7 @@ use Rattle.std.specs.Prelude.{◌≡◌, ℕ, ◌↔◌, List, length, Ok, None}
 use Rattle.quantity.specs.Group.{Group}
 use Rattle.netlist.specs.declared.spans.Span.{Span}
 use Rattle.netlist.specs.declared.terms.Term.{Term}
-use Rattle.netlist.specs.Alike.{Alike}
+use Rattle.likeness.specs.Alike.{Alike}
 use Rattle.netlist.specs.Buffers.{filled}
 use Rattle.netlist.specs.Netlist.{Netlist}
 use Rattle.netlist.specs.Pieces.{flat}

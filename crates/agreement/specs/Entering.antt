@@ -3,7 +3,7 @@ use Rattle.std.specs.Prelude.{List, [], ◌∷◌}
 use Rattle.std.specs.List.{fold}
 use Rattle.netlist.specs.declared.rows.Row.TheVariants.{Branch as BranchRow, Earth as EarthRow}
 use Rattle.netlist.specs.Netlist.{Netlist}
-use Rattle.netlist.specs.Rules.{after_node, after_variables, after_row, after_law}
+use Rattle.draft.specs.Rules.{after_node, after_variables, after_row, after_law}
 use Rattle.assembly.specs.Meaning.{Meaning}
 use Rattle.place.specs.Place.{after_place}
 use Rattle.agreement.specs.declared.calls.Call.{Call}

@@ -6,7 +6,7 @@ use crate::calls::{Call, run};
 use assembly::Assembly;
 use checking::{Verdict, check};
 use equation::listing::{Listing, equations};
-use netlist::refusals::Refusal;
+use draft::refusals::Refusal;
 use netlist::spans::Span;
 use netlist::terms::Term;
 use quantity::Quantity;

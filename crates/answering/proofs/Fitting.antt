@@ -6,10 +6,10 @@ use Rattle.std.proofs.lemmas.Bool.{eq-eqb, eqb-true}
 use Rattle.std.proofs.lemmas.List.{length-map}
 use Rattle.quantity.specs.Group.{Group}
 use Rattle.quantity.specs.declared.numbers.Whole.{Whole}
-use Rattle.netlist.specs.declared.refusals.Refusal.{Refusal}
-use Rattle.netlist.specs.declared.refusals.Refusal.TheVariants.{WrongCount}
+use Rattle.draft.specs.declared.refusals.Refusal.{Refusal}
+use Rattle.draft.specs.declared.refusals.Refusal.TheVariants.{WrongCount}
 use Rattle.netlist.specs.Netlist.{Netlist}
-use Rattle.netlist.specs.Rules.{first_of}
+use Rattle.refusal.specs.Tests.{first_of}
 use Rattle.text.specs.Grammar.{Bytes}
 use Rattle.text.specs.Newlines.{lines_of}
 use Rattle.readings_text.specs.declared.lines.Reading.{Reading}

@@ -1,9 +1,9 @@
 -- What an assembly means: void, or a plan; and what each query tells of it.
 use Rattle.std.specs.Prelude.{◌≡◌, ℕ, ◌≤◌, Bool, true, false, ◌&&◌, List, [], ◌++◌, map, length, Some, None, Option, nat_le, slice_index_or}
 use Rattle.netlist.specs.declared.domains.Domain.{Domain}
-use Rattle.netlist.specs.Sound.{every, is_term_count}
-use Rattle.assembly.specs.Plans.{PlanRow}
-use Rattle.assembly.specs.Plans.{PlanTerm}
+use Rattle.netlist.specs.Sound.{is_term_count}
+use Rattle.std.specs.List.{list_all}
+use Rattle.assembly.specs.Plans.{PlanRow, PlanTerm}
 use Rattle.assembly.specs.declared.plans.Size.{Size}
 
 -- The domains of the ends and of the inner nodes, the number of variables, the rows and the laws. The
@@ -27,7 +27,7 @@ pub record Bounded (p : Plan) : Type 0 where
   pub few_rows : length p.rows ≤ 6000
   pub few_laws : length p.laws ≤ 6000
   -- each law has one to eight terms
-  pub law_lengths : every is_term_count (map length p.laws) ≡ true
+  pub law_lengths : list_all is_term_count (map length p.laws) ≡ true
 
 -- No count is above 6,000.
 abbrev pub is_small : Size → Bool

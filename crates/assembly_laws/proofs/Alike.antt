@@ -1,6 +1,6 @@
 -- Netlists that differ in the numbers of their nodes alone are alike.
 use Rattle.std.proofs.Common.{◌≡◌, ℕ, ◌<◌, true, List, [], ◌∷◌, map, length, sym, refl, ◌∙◌, subst}
-use Rattle.std.specs.List.{AllByRecursion}
+use Rattle.std.specs.List.{AllByRecursion, list_all}
 use Rattle.std.specs.List.Sorted.{IsPermutation}
 use Rattle.std.proofs.lemmas.Bool.{and_parts, ltb-true}
 use Rattle.std.proofs.lemmas.List.{map-id}
@@ -8,9 +8,10 @@ use Rattle.std.proofs.lemmas.List.Sorted.{IsPermutation-refl}
 use Rattle.netlist.specs.declared.rows.Row.{Row}
 use Rattle.netlist.specs.declared.rows.Row.TheVariants.{Branch, Earth}
 use Rattle.netlist.specs.declared.terms.Term.{Term}
-use Rattle.netlist.specs.Alike.{Alike, renamed_row, renamed_law, nodes_in, variables_in}
+use Rattle.likeness.specs.Alike.{Alike, nodes_in, variables_in}
+use Rattle.netlist.specs.Renaming.{renamed_row, renamed_law}
 use Rattle.netlist.specs.Netlist.{Netlist}
-use Rattle.netlist.specs.Sound.{every, joins}
+use Rattle.netlist.specs.Sound.{joins}
 use Rattle.assembly_laws.specs.ButNodes.{nodes_only, SameButNodes}
 
 all_of : {X : Type 0} (P : X → Type 0) → ((x : X) → P x) → (xs : List X) → AllByRecursion P xs
@@ -40,8 +41,8 @@ module _ (to : ℕ → ℕ) (domains : List ℕ) (kept : (n : ℕ) → n < lengt
       (λ i. Branch flow across (kept first (ltb-true _ _ t.0) i) (kept second (ltb-true _ _ u.0) i))
   row_kept (Earth flow across node) h = (λ i. Earth flow across (kept node (ltb-true _ _ h) i))
 
-  pub rows_kept : (rows : List (Row ℕ)) → every (joins domains) rows ≡ true → map (renamed_row (nodes_only to)) rows ≡ rows
+  pub rows_kept : (rows : List (Row ℕ)) → list_all (joins domains) rows ≡ true → map (renamed_row (nodes_only to)) rows ≡ rows
   rows_kept [] h = refl
   rows_kept (row ∷ rows) h =
-      let t = and_parts (joins domains row) (every (joins domains) rows) h in
+      let t = and_parts (joins domains row) (list_all (joins domains) rows) h in
       (λ i. row_kept row t.0 i ∷ rows_kept rows t.1 i)

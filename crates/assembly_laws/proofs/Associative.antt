@@ -3,7 +3,7 @@ use Rattle.std.proofs.Common.{◌≡◌, ℕ, ◌+◌, ◌≤◌, true, List, []
 use Rattle.std.specs.List.{slice_get}
 use Rattle.std.proofs.lemmas.List.{append-nil, append_assoc, map-append, length-append, length_push}
 use Rattle.netlist.specs.declared.domains.Domain.{Domain}
-use Rattle.netlist.specs.Alike.{Renaming, renamed_row}
+use Rattle.netlist.specs.Renaming.{Renaming, renamed_row}
 use Rattle.assembly.specs.Plans.{PlanRow, PlanTerm}
 use Rattle.assembly.specs.Meaning.{Plan, size_in, is_small}
 use Rattle.layers.proofs.Small.{small_bounds}

@@ -6,8 +6,8 @@ use Rattle.std.proofs.lemmas.List.{length-map}
 use Rattle.netlist.specs.declared.domains.Domain.{Domain}
 use Rattle.netlist.specs.Domains.{domain_number}
 use Rattle.netlist.specs.Netlist.{Netlist, term_count}
-use Rattle.netlist.specs.Rules.{Tests, first_of}
-use Rattle.netlist.proofs.Tables.{passes}
+use Rattle.refusal.specs.Tests.{Tests, first_of}
+use Rattle.refusal.proofs.Tables.{passes}
 use Rattle.sheet.specs.Counting.{room_tests}
 use Rattle.assembly.specs.Meaning.{Plan}
 use Rattle.plan_judging.specs.Alone.{judge_rows, judge_laws}

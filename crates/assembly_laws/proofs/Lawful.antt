@@ -3,11 +3,13 @@ use Rattle.std.proofs.Common.{◌≡◌, ℕ, ◌+◌, ◌<◌, List, [], ◌∷
 use Rattle.std.specs.List.{AllByRecursion}
 use Rattle.std.specs.Option.{option_map, option_or}
 use Rattle.std.proofs.lemmas.Bool.{leb-false, lt-leb}
-use Rattle.netlist.specs.declared.refusals.Refusal.{Refusal}
-use Rattle.netlist.specs.declared.refusals.Refusal.TheVariants.{PlanLaw, TermCount}
-use Rattle.netlist.specs.Refusals.{number}
-use Rattle.netlist.specs.Rules.{first_of, table_term, table_terms, table_law, no_term_count}
-use Rattle.netlist.proofs.Tables.{passes, passes_line, parts, passed_over}
+use Rattle.draft.specs.declared.refusals.Refusal.{Refusal}
+use Rattle.draft.specs.declared.refusals.Refusal.TheVariants.{PlanLaw, TermCount}
+use Rattle.draft.specs.Refusals.{number}
+use Rattle.draft.specs.Rules.{table_term, table_terms, table_law}
+use Rattle.netlist.specs.Limits.{no_term_count}
+use Rattle.refusal.specs.Tests.{first_of}
+use Rattle.refusal.proofs.Tables.{passes, passes_line, parts, passed_over}
 use Rattle.assembly.specs.Plans.{PlanTerm}
 use Rattle.plan_judging.specs.Alone.{judge_laws}
 use Rattle.assembly_laws.proofs.Passing.{neither, unmapped, all_pass}

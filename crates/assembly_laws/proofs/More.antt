@@ -4,7 +4,7 @@ use Rattle.std.specs.List.{range_with_len, flat_map, slice_get}
 use Rattle.std.proofs.lemmas.Bool.{and_parts, and_from, le-leb}
 use Rattle.std.proofs.lemmas.List.{append_assoc, append-nil, map-append}
 use Rattle.netlist.specs.declared.domains.Domain.{Domain}
-use Rattle.netlist.specs.Alike.{renamed_row}
+use Rattle.netlist.specs.Renaming.{renamed_row}
 use Rattle.assembly.specs.Plans.{PlanRow, PlanTerm}
 use Rattle.assembly.specs.declared.plans.Size.{Size}
 use Rattle.assembly.specs.Meaning.{void, plan, Plan, Bounded, size_in, is_small}

@@ -5,7 +5,7 @@ use Rattle.netlist.specs.declared.domains.Domain.{Domain}
 use Rattle.netlist.specs.Domains.{domain_number}
 use Rattle.netlist.specs.Netlist.{Netlist}
 use Rattle.netlist.specs.Sound.{Sound}
-use Rattle.netlist.proofs.Rooms.{node_left}
+use Rattle.draft.proofs.Rooms.{node_left}
 use Rattle.assembly.specs.Meaning.{void, plan, Plan, size_in, is_small}
 use Rattle.layers.proofs.Ends.{by_both_ends}
 use Rattle.series.specs.Series.{series, meet}

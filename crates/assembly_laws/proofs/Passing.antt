@@ -3,16 +3,17 @@ use Rattle.std.proofs.Common.{◌≡◌, ℕ, ◌+◌, ◌<◌, Bool, false, con
 use Rattle.std.specs.List.{AllByRecursion}
 use Rattle.std.specs.Option.{option_map, option_or}
 use Rattle.std.proofs.lemmas.Bool.{leb-false, lt-leb}
-use Rattle.netlist.specs.declared.refusals.Refusal.{Refusal}
-use Rattle.netlist.specs.declared.refusals.Refusal.TheVariants.{PlanRow}
+use Rattle.draft.specs.declared.refusals.Refusal.{Refusal}
+use Rattle.draft.specs.declared.refusals.Refusal.TheVariants.{PlanRow}
 use Rattle.netlist.specs.declared.rows.Row.{Row}
 use Rattle.netlist.specs.declared.rows.Row.TheVariants.{Branch, Earth}
-use Rattle.netlist.specs.Alike.{renamed_row}
+use Rattle.netlist.specs.Renaming.{renamed_row}
 use Rattle.netlist.specs.Netlist.{Netlist, with_rows}
-use Rattle.netlist.specs.Refusals.{number}
+use Rattle.draft.specs.Refusals.{number}
 use Rattle.netlist.specs.Rows.{hits, uses}
-use Rattle.netlist.specs.Rules.{Tests, first_of, row_tests, table_row}
-use Rattle.netlist.proofs.Tables.{passes}
+use Rattle.draft.specs.Rules.{row_tests, table_row}
+use Rattle.refusal.specs.Tests.{Tests, first_of}
+use Rattle.refusal.proofs.Tables.{passes}
 use Rattle.netlist.proofs.Taking.{uses_push}
 use Rattle.plan_judging.specs.Alone.{judge_rows}
 use Rattle.assembly_laws.specs.ButNodes.{nodes_only}

@@ -8,7 +8,7 @@ use Rattle.std.proofs.lemmas.Option.{slice_get_past, slice_get-map, unwrap_or-sl
 use Rattle.netlist.specs.declared.domains.Domain.{Domain}
 use Rattle.netlist.specs.declared.rows.Row.{Row}
 use Rattle.netlist.specs.declared.rows.Row.TheVariants.{Branch, Earth}
-use Rattle.netlist.specs.Alike.{renamed_row}
+use Rattle.netlist.specs.Renaming.{renamed_row}
 use Rattle.netlist.specs.Domains.{domain_number}
 use Rattle.netlist.specs.Netlist.{Netlist, term_of, term_count}
 use Rattle.netlist.specs.Rows.{uses}

@@ -5,7 +5,7 @@ use Rattle.std.proofs.lemmas.Bool.{cases_lt}
 use Rattle.std.proofs.lemmas.List.{append-nil, get_or_at, append_assoc, map-append, length-append, length-map, length_push, get_or_append_left}
 use Rattle.netlist.specs.declared.domains.Domain.{Domain}
 use Rattle.netlist.specs.declared.rows.Row.{Row}
-use Rattle.netlist.specs.Alike.{Renaming, renamed_row}
+use Rattle.netlist.specs.Renaming.{Renaming, renamed_row}
 use Rattle.netlist.specs.Domains.{domain_number}
 use Rattle.netlist.specs.declared.terms.Term.{Term}
 use Rattle.netlist.specs.Netlist.{Netlist, with_nodes, term_count, term_of}

@@ -3,7 +3,7 @@ use Rattle.std.proofs.Common.{length, ◌+◌, ◌≡◌, ℕ, ◌<◌, List, []
 use Rattle.std.specs.List.{AllByRecursion}
 use Rattle.netlist.specs.declared.rows.Row.{Row}
 use Rattle.netlist.specs.declared.rows.Row.TheVariants.{Branch, Earth}
-use Rattle.netlist.specs.Alike.{Renaming, renamed_row}
+use Rattle.netlist.specs.Renaming.{Renaming, renamed_row}
 use Rattle.netlist.specs.Netlist.{Netlist}
 use Rattle.assembly.specs.Plans.{PlanRow}
 use Rattle.layers.specs.declared.renumbering.Renumbering.{Renumbering}

@@ -1,7 +1,7 @@
 -- Two netlists, or two plans, that differ in the numbers of their nodes alone.
 use Rattle.std.specs.Prelude.{◌≡◌, ℕ, map, length, slice_index}
 use Rattle.netlist.specs.Netlist.{Netlist}
-use Rattle.netlist.specs.Alike.{Renaming, renamed_row}
+use Rattle.netlist.specs.Renaming.{Renaming, renamed_row}
 use Rattle.assembly.specs.Meaning.{Meaning, void, plan, Plan}
 use Rattle.layers.specs.Layer.{domain_at}
 

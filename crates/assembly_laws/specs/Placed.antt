@@ -1,9 +1,9 @@
 -- A series that is placed, and its parts placed one by one.
 use Rattle.std.specs.Prelude.{◌≡◌, ℕ, ◌+◌, ◌<◌, ◌↔◌, [], ◌∷◌, map, length, None, slice_index}
-use Rattle.netlist.specs.Alike.{Alike}
+use Rattle.likeness.specs.Alike.{Alike}
 use Rattle.netlist.specs.Domains.{domain_number}
 use Rattle.netlist.specs.Netlist.{Netlist, with_nodes}
-use Rattle.netlist.specs.Rules.{judge_node}
+use Rattle.draft.specs.Rules.{judge_node}
 use Rattle.netlist.specs.Sound.{Sound}
 use Rattle.assembly.specs.Meaning.{Meaning, void, plan, Proper, domains_of}
 use Rattle.series.specs.Series.{series}

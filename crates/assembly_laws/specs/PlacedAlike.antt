@@ -1,6 +1,6 @@
 -- Where plans that differ in the numbers of their inner nodes alone are placed.
 use Rattle.std.specs.Prelude.{◌≡◌, ℕ, ◌+◌, ◌-◌, ◌↔◌, cond, [], ◌∷◌, length, None, nat_lt}
-use Rattle.netlist.specs.Alike.{Alike}
+use Rattle.likeness.specs.Alike.{Alike}
 use Rattle.netlist.specs.Netlist.{Netlist}
 use Rattle.netlist.specs.Sound.{Sound}
 use Rattle.assembly.specs.Meaning.{Meaning, Proper}

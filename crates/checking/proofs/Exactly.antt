@@ -5,7 +5,7 @@ use Rattle.std.specs.Result.{IfOk}
 use Rattle.quantity.specs.Integers.{integers}
 use Rattle.quantity.specs.Wholes.{wholes}
 use Rattle.quantity.specs.declared.numbers.Whole.{Whole}
-use Rattle.netlist.specs.declared.refusals.Refusal.{Refusal}
+use Rattle.draft.specs.declared.refusals.Refusal.{Refusal}
 use Rattle.netlist.specs.Netlist.{Netlist}
 use Rattle.netlist.specs.Sound.{Sound}
 use Rattle.network.specs.ReadingsAgree.{ReadingsAgree}

@@ -5,11 +5,11 @@ use Rattle.std.proofs.lemmas.Bool.{cond-false, le-ltb, true≢false}
 use Rattle.std.proofs.lemmas.Bool.Decides.{nat_tests}
 use Rattle.std.proofs.lemmas.List.Quantifiers.{position-Some}
 use Rattle.quantity.specs.Group.{Group}
-use Rattle.netlist.specs.declared.refusals.Refusal.{Refusal}
+use Rattle.draft.specs.declared.refusals.Refusal.{Refusal}
 use Rattle.netlist.specs.declared.rows.Row.{Row}
 use Rattle.netlist.specs.declared.rows.Row.TheVariants.{Branch, Earth}
 use Rattle.netlist.specs.Netlist.{Netlist}
-use Rattle.netlist.specs.Rules.{answer}
+use Rattle.refusal.specs.Tests.{answer}
 use Rattle.netlist.specs.Sound.{Sound}
 use Rattle.network.specs.Walks.{Network, row_at, no_row, tail_of, head_of}
 use Rattle.readings.proofs.Drawing.{sound_drawn}

@@ -1,10 +1,10 @@
 -- What a check answers, and what it leaves in the buffer of potentials.
 use Rattle.std.specs.Prelude.{◌≡◌, ℕ, not, ◌||◌, List, [], ◌∷◌, length, Some, None, Option, Result, Ok, Err, ◌==◌}
 use Rattle.quantity.specs.Group.{Group}
-use Rattle.netlist.specs.declared.refusals.Refusal.{Refusal}
-use Rattle.netlist.specs.declared.refusals.Refusal.TheVariants.{WrongCount}
+use Rattle.draft.specs.declared.refusals.Refusal.{Refusal}
+use Rattle.draft.specs.declared.refusals.Refusal.TheVariants.{WrongCount}
 use Rattle.netlist.specs.Netlist.{Netlist}
-use Rattle.netlist.specs.Rules.{Tests, first_of}
+use Rattle.refusal.specs.Tests.{Tests, first_of}
 use Rattle.checking.specs.declared.verdicts.Verdict.{Verdict}
 use Rattle.checking.specs.Verdicts.{VerdictIs}
 use Rattle.checking.specs.Potentials.{Filled}

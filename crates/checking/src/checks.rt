@@ -6,7 +6,7 @@ ghost use Rattle.checking.specs.Verdicts.{OneVerdict};
 use crate::counts::judge_counts;
 use crate::searching::{first_law, first_node};
 use crate::verdicts::Verdict;
-use netlist::refusals::Refusal;
+use draft::refusals::Refusal;
 use quantity::Quantity;
 use sheet::Sheet;
 use walk_test::{ByVariable, Finding, Workspace, clear, test_walks};

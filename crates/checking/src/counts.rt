@@ -1,9 +1,9 @@
 //! Whether a check can begin.
 ghost use Rattle.std.specs.Prelude.{◌≡◌};
-ghost use Rattle.netlist.specs.Rules.{answer};
+ghost use Rattle.refusal.specs.Tests.{answer};
 ghost use Rattle.checking.specs.Checked.{judge_check};
 
-use netlist::refusals::Refusal;
+use draft::refusals::Refusal;
 use sheet::Sheet;
 
 /// Asks for as many values and rates as the sheet has variables, and as many potentials as it has nodes.

@@ -7,7 +7,7 @@ ghost use Rattle.checking.specs.Integers.{JudgesIntegers};
 
 use crate::checks::check;
 use crate::verdicts::Verdict;
-use netlist::refusals::Refusal;
+use draft::refusals::Refusal;
 use quantity::Whole;
 use sheet::Sheet;
 use walk_test::Workspace;

@@ -1,7 +1,7 @@
 //! What the check says of them.
 use super::sheets::{drive, rate, ring, triangle};
 use checking::{Verdict, check, check_whole, one_verdict};
-use netlist::refusals::Refusal;
+use draft::refusals::Refusal;
 use quantity::{Phasor, Whole};
 use sheet::Draft;
 use std::test::Fail;

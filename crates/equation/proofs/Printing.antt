@@ -1,11 +1,11 @@
 -- A line that is printed, and what the call then answers.
 use Rattle.std.proofs.Common.{◌≡◌, ℕ, ◌<◌, ◌≤◌, List, length, Some, Option, Result, sym, ap, ◌∙◌}
 use Rattle.std.proofs.lemmas.Bool.{le-leb, lt-leb, cond-true, cond-false}
-use Rattle.netlist.specs.declared.refusals.Refusal.{Refusal}
-use Rattle.netlist.specs.declared.refusals.Refusal.TheVariants.{NoEquation}
+use Rattle.draft.specs.declared.refusals.Refusal.{Refusal}
+use Rattle.draft.specs.declared.refusals.Refusal.TheVariants.{NoEquation}
 use Rattle.netlist.specs.Buffers.{filled}
 use Rattle.netlist.specs.Netlist.{Netlist}
-use Rattle.netlist.specs.Rules.{answer}
+use Rattle.refusal.specs.Tests.{answer}
 use Rattle.netlist.specs.declared.terms.Term.{Term}
 use Rattle.spelling.specs.Lines.{line_text}
 use Rattle.spelling.specs.Rules.{judge_text, answer_text}

@@ -1,6 +1,6 @@
 -- How many terms the equations have.
 use Rattle.std.proofs.Common.{◌≡◌, ℕ, zero, suc, ◌+◌, ◌*◌, ◌<◌, ◌≤◌, Bool, true, false, cond, eqb, ltb, List, [], ◌∷◌, ◌++◌, map, length, Some, None, sym, refl, ap, ◌∙◌, ⊎_elim, arith}
-use Rattle.std.specs.List.{range_with_len, sum_by}
+use Rattle.std.specs.List.{range_with_len, sum_by, list_all}
 use Rattle.std.specs.Option.{option_to_list}
 use Rattle.std.proofs.lemmas.List.{length-append}
 use Rattle.std.proofs.lemmas.List.Sums.{sum_by-cons}
@@ -10,7 +10,7 @@ use Rattle.netlist.specs.declared.rows.Row.TheVariants.{Branch, Earth}
 use Rattle.netlist.specs.declared.terms.Term.{Term}
 use Rattle.netlist.specs.Pieces.{flat}
 use Rattle.netlist.specs.Rows.{bit}
-use Rattle.netlist.specs.Sound.{every, joins}
+use Rattle.netlist.specs.Sound.{joins}
 use Rattle.equation.specs.Equations.{plus, minus, term_at, node_sum, node_sums, row_equation}
 use Rattle.equation.specs.Writing.{row_size}
 
@@ -99,10 +99,10 @@ sums_row row rows a (suc n) =
       length-append rest (flat (map (node_sum rows) (range_with_len (a + 1) n))),
     )
 
-pub sizes_are : (ds : List ℕ) (v : ℕ) (rows : List (Row ℕ)) → every (joins ds) rows ≡ true → length (flat (node_sums rows (length ds))) + length (flat (map (row_equation v) rows)) ≡ sum_by row_size rows
+pub sizes_are : (ds : List ℕ) (v : ℕ) (rows : List (Row ℕ)) → list_all (joins ds) rows ≡ true → length (flat (node_sums rows (length ds))) + length (flat (map (row_equation v) rows)) ≡ sum_by row_size rows
 sizes_are ds v [] h = omega (arith, sums_none 0 (length ds))
 sizes_are ds v (row ∷ rows) h =
-    let p = and_parts (joins ds row) (every (joins ds) rows) h in
+    let p = and_parts (joins ds row) (list_all (joins ds) rows) h in
     omega (
       arith,
       sum_by-cons row_size row rows,

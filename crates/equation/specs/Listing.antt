@@ -1,12 +1,12 @@
 -- How the equations lie in two lent buffers, and when these are too short.
 use Rattle.std.specs.Prelude.{ℕ, ◌+◌, ◌||◌, List, [], ◌∷◌, length, Option, Result, nat_lt}
-use Rattle.netlist.specs.declared.refusals.Refusal.{Refusal}
-use Rattle.netlist.specs.declared.refusals.Refusal.TheVariants.{ShortBuffer}
+use Rattle.draft.specs.declared.refusals.Refusal.{Refusal}
+use Rattle.draft.specs.declared.refusals.Refusal.TheVariants.{ShortBuffer}
 use Rattle.netlist.specs.declared.spans.Span.{Span}
 use Rattle.netlist.specs.declared.terms.Term.{Term}
 use Rattle.netlist.specs.Netlist.{Netlist}
 use Rattle.netlist.specs.Pieces.{flat}
-use Rattle.netlist.specs.Rules.{Tests, first_of, answer}
+use Rattle.refusal.specs.Tests.{Tests, first_of, answer}
 use Rattle.equation.specs.declared.listing.Listing.{Listing}
 use Rattle.equation.specs.Equations.{equations_of}
 

@@ -1,10 +1,10 @@
 -- What the line of equation k is, and when it is not printed.
 use Rattle.std.specs.Prelude.{◌≡◌, ℕ, List, [], ◌∷◌, length, Option, Result, nat_le, slice_index_or}
-use Rattle.netlist.specs.declared.refusals.Refusal.{Refusal}
-use Rattle.netlist.specs.declared.refusals.Refusal.TheVariants.{NoEquation}
+use Rattle.draft.specs.declared.refusals.Refusal.{Refusal}
+use Rattle.draft.specs.declared.refusals.Refusal.TheVariants.{NoEquation}
 use Rattle.netlist.specs.Buffers.{filled}
 use Rattle.netlist.specs.Netlist.{Netlist}
-use Rattle.netlist.specs.Rules.{Tests, first_of, answer}
+use Rattle.refusal.specs.Tests.{Tests, first_of, answer}
 use Rattle.spelling.specs.Lines.{line_text}
 use Rattle.spelling.specs.Rules.{table_text, judge_text, answer_text}
 use Rattle.equation.specs.Equations.{equations_of}

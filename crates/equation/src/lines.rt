@@ -7,7 +7,7 @@ ghost use Rattle.equation.specs.Printing.{line_of, judge_line, answer_line, Prin
 
 use crate::nodes::put_node;
 use crate::rows::RowEquation;
-use netlist::refusals::Refusal;
+use draft::refusals::Refusal;
 use netlist::terms::Term;
 use sheet::Sheet;
 use sheet::drafts::MAX_ROWS;

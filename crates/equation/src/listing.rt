@@ -8,7 +8,7 @@ ghost use Rattle.equation.specs.Placed.{Placed};
 
 use crate::rows::row_sizes;
 use crate::writing::put_equations;
-use netlist::refusals::Refusal;
+use draft::refusals::Refusal;
 use netlist::spans::Span;
 use netlist::terms::Term;
 use sheet::Sheet;

@@ -8,7 +8,7 @@ use Rattle.quantity.specs.Wholes.{whole, wholes}
 use Rattle.quantity.specs.declared.numbers.Whole.{Whole}
 use Rattle.quantity.specs.Group.{Group, minus}
 use Rattle.quantity.proofs.Groups.{minus_sum, negation_minus, same_from_minus}
-use Rattle.netlist.specs.declared.refusals.Refusal.{Refusal}
+use Rattle.draft.specs.declared.refusals.Refusal.{Refusal}
 use Rattle.netlist.specs.Netlist.{Netlist}
 use Rattle.network.specs.ReadingsAgree.{ReadingsAgree}
 use Rattle.network.specs.Flows.{NodesKeep}

@@ -2,8 +2,8 @@
 use Rattle.std.proofs.Common.{◌≡◌, sym, ◌∙◌, List, [], ◌∷◌, refl, arith, Ok, Err, codes, inl, inr, pos, negsuc}
 use Rattle.std.specs.Fmt.{digits}
 use Rattle.netlist.specs.Netlist.{Netlist, empty}
-use Rattle.netlist.specs.declared.refusals.Argument.TheVariants.{Across}
-use Rattle.netlist.specs.declared.refusals.Refusal.TheVariants.{Taken}
+use Rattle.draft.specs.declared.refusals.Argument.TheVariants.{Across}
+use Rattle.draft.specs.declared.refusals.Refusal.TheVariants.{Taken}
 use Rattle.netlist.specs.declared.rows.Row.TheVariants.{Branch, Earth}
 use Rattle.netlist.specs.declared.terms.Order.TheVariants.{Value}
 use Rattle.text.specs.declared.kinds.Kind.{Kind}

@@ -3,9 +3,9 @@ use Rattle.std.specs.Prelude.{◌≡◌, List, [], length, map, replicate, ℕ, 
 use Rattle.quantity.specs.Group.{Group}
 use Rattle.quantity.specs.Integers.{integers}
 use Rattle.quantity.specs.Wholes.{wholes, whole}
-use Rattle.netlist.specs.declared.refusals.Refusal.{Refusal}
+use Rattle.draft.specs.declared.refusals.Refusal.{Refusal}
 use Rattle.netlist.specs.Netlist.{Netlist, empty, with_nodes}
-use Rattle.netlist.specs.Rules.{answer_node}
+use Rattle.draft.specs.Rules.{answer_node}
 use Rattle.text.specs.Grammar.{Bytes}
 use Rattle.sheet_reader.specs.Reading.{Answer, ReadsText}
 use Rattle.printing.specs.Printing.{Prints}

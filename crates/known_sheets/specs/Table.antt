@@ -1,9 +1,9 @@
 -- The sheets whose answers are known.
 use Rattle.std.specs.Prelude.{List, [], ◌∷◌, codes, ℤ, pos, neg_ℤ, None, Some, Ok, Err}
 use Rattle.std.specs.List.{AllByRecursion}
-use Rattle.netlist.specs.declared.refusals.Argument.TheVariants.{Across}
-use Rattle.netlist.specs.declared.refusals.Refusal.TheVariants.{Limit, Taken}
-use Rattle.netlist.specs.declared.refusals.Table.TheVariants.{Nodes}
+use Rattle.draft.specs.declared.refusals.Argument.TheVariants.{Across}
+use Rattle.draft.specs.declared.refusals.Refusal.TheVariants.{Limit, Taken}
+use Rattle.draft.specs.declared.refusals.Table.TheVariants.{Nodes}
 use Rattle.assembly.specs.declared.plans.Size.{Size}
 use Rattle.parts.specs.declared.single.Single.{Single}
 use Rattle.text.specs.Grammar.{Bytes}

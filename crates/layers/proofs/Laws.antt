@@ -1,11 +1,11 @@
 -- Laws whose terms are moved.
 use Rattle.std.proofs.Common.{◌≡◌, ℕ, ◌-◌, ◌≤◌, true, List, [], ◌∷◌, ◌++◌, map, length, get_or, Some, None, Option, unwrap_or, sym, refl, ap, ◌∙◌}
 use Rattle.std.specs.Option.{option_map}
-use Rattle.std.specs.List.{slice_get}
+use Rattle.std.specs.List.{slice_get, list_all}
 use Rattle.std.proofs.lemmas.List.{length-map, map-append, get_or-append_right}
 use Rattle.std.proofs.lemmas.Option.{slice_get-map, unwrap_or-slice_get}
 use Rattle.std.proofs.Math.ListN.{get_or-map}
-use Rattle.netlist.specs.Sound.{every, is_term_count}
+use Rattle.netlist.specs.Sound.{is_term_count}
 use Rattle.netlist.proofs.Every.{every_append}
 use Rattle.assembly.specs.Plans.{PlanTerm}
 use Rattle.assembly.specs.Meaning.{Plan, Bounded}
@@ -39,9 +39,9 @@ moved_lengths : {X Y : Type 0} (f : X → Y) (laws : List (List X)) → map leng
 moved_lengths f [] = refl
 moved_lengths f (law ∷ laws) = (λ i. length-map law f i ∷ moved_lengths f laws i)
 
-pub kept_lengths : (p : Renumbering) (a : Plan) → Bounded a → every is_term_count (map length (moved_laws p a)) ≡ true
-kept_lengths p a b = ap (every is_term_count) (moved_lengths (moved_term p) a.laws) ∙ b.law_lengths
+pub kept_lengths : (p : Renumbering) (a : Plan) → Bounded a → list_all is_term_count (map length (moved_laws p a)) ≡ true
+kept_lengths p a b = ap (list_all is_term_count) (moved_lengths (moved_term p) a.laws) ∙ b.law_lengths
 
-pub joined_lengths : (xs ys : List (List PlanTerm)) → every is_term_count (map length xs) ≡ true → every is_term_count (map length ys) ≡ true → every is_term_count (map length (xs ++ ys)) ≡ true
+pub joined_lengths : (xs ys : List (List PlanTerm)) → list_all is_term_count (map length xs) ≡ true → list_all is_term_count (map length ys) ≡ true → list_all is_term_count (map length (xs ++ ys)) ≡ true
 joined_lengths xs ys h k =
-    ap (every is_term_count) (map-append length xs ys) ∙ every_append is_term_count (map length xs) (map length ys) h k
+    ap (list_all is_term_count) (map-append length xs ys) ∙ every_append is_term_count (map length xs) (map length ys) h k

@@ -2,7 +2,8 @@
 use Rattle.std.proofs.Common.{◌≡◌, ℕ, ◌≤◌, true, map, length, arith}
 use Rattle.std.proofs.lemmas.Bool.Decides.{nat_tests}
 use Rattle.assembly.specs.declared.plans.Size.{Size}
-use Rattle.netlist.specs.Sound.{every, is_term_count}
+use Rattle.netlist.specs.Sound.{is_term_count}
+use Rattle.std.specs.List.{list_all}
 use Rattle.assembly.specs.Meaning.{is_small, Plan, Bounded, size_in}
 
 abbrev pub size_with : ℕ → ℕ → ℕ → ℕ → ℕ → Size
@@ -21,7 +22,7 @@ pub small_from : (n : Size) → Bounds n → is_small n ≡ true
 small_from n b = grind (arith, nat_tests)
 
 -- A plan of two ends whose size is small, and whose laws are not too long, keeps to the bounds of a plan.
-pub bounded : (p : Plan) → length p.ends ≡ 2 → is_small (size_in p) ≡ true → every is_term_count (map length p.laws) ≡ true → Bounded p
+pub bounded : (p : Plan) → length p.ends ≡ 2 → is_small (size_in p) ≡ true → list_all is_term_count (map length p.laws) ≡ true → Bounded p
 bounded p two small lengths =
     let t = small_bounds (size_in p) small in
     record {

@@ -6,7 +6,8 @@ use Rattle.netlist.specs.declared.rows.Row.{Row}
 use Rattle.netlist.specs.declared.terms.Term.{Term}
 use Rattle.netlist.specs.Netlist.{Netlist}
 use Rattle.netlist.specs.Rows.{across_of}
-use Rattle.netlist.specs.Alike.{renamed_row, renamed_law, nodes_of, nodes_in, Alike}
+use Rattle.likeness.specs.Alike.{nodes_of, nodes_in, Alike}
+use Rattle.netlist.specs.Renaming.{renamed_row, renamed_law}
 use Rattle.network.specs.ReadingsAgree.{ReadingsAgree}
 use Rattle.network.specs.Flows.{SetsKeep}
 use Rattle.network.specs.Laws.{law_sum, LawsHold}

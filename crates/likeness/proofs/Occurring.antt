@@ -2,7 +2,8 @@
 use Rattle.std.proofs.Common.{ℕ}
 use Rattle.std.specs.List.{AllByRecursion, flat_map}
 use Rattle.netlist.specs.Netlist.{Netlist}
-use Rattle.netlist.specs.Alike.{renamed_row, renamed_law, nodes_of, nodes_in, variables_in, Alike}
+use Rattle.likeness.specs.Alike.{nodes_of, nodes_in, variables_in, Alike}
+use Rattle.netlist.specs.Renaming.{renamed_row, renamed_law}
 use Rattle.likeness.proofs.Listing.{all_append, all_of_append, all_of_flat, names_forth, names_back}
 use Rattle.likeness.proofs.Renaming.{of_row, of_law, nodes_renamed, row_renamed, law_renamed}
 

@@ -4,7 +4,8 @@ use Rattle.std.proofs.lemmas.Simd.{map-map}
 use Rattle.netlist.specs.declared.rows.Row.{Row}
 use Rattle.netlist.specs.declared.rows.Row.TheVariants.{Branch, Earth}
 use Rattle.netlist.specs.declared.terms.Term.{Term}
-use Rattle.netlist.specs.Alike.{Renaming, renamed_row, renamed_law, nodes_of, Undone}
+use Rattle.likeness.specs.Alike.{nodes_of, Undone}
+use Rattle.netlist.specs.Renaming.{Renaming, renamed_row, renamed_law}
 use Rattle.netlist.specs.Rows.{flow_of, across_of}
 use Rattle.network.specs.Walks.{tail_of, head_of}
 use Rattle.likeness.specs.Turning.{unchanged, onward}

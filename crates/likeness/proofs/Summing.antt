@@ -12,7 +12,8 @@ use Rattle.netlist.specs.declared.terms.Order.{Order}
 use Rattle.netlist.specs.declared.terms.Order.TheVariants.{Value, Rate}
 use Rattle.netlist.specs.declared.terms.Term.{Term}
 use Rattle.netlist.specs.Rows.{flow_of}
-use Rattle.netlist.specs.Alike.{Renaming, renamed_row, renamed_law, nodes_of}
+use Rattle.likeness.specs.Alike.{nodes_of}
+use Rattle.netlist.specs.Renaming.{Renaming, renamed_row, renamed_law}
 use Rattle.network.specs.Flows.{leaves, net_flow}
 use Rattle.network.specs.Laws.{of_order, law_sum}
 use Rattle.network.specs.Walks.{read}

@@ -4,7 +4,8 @@ use Rattle.std.specs.List.Sorted.{IsPermutation}
 use Rattle.std.proofs.lemmas.List.{map-id}
 use Rattle.std.proofs.lemmas.List.Sorted.{IsPermutation-refl}
 use Rattle.quantity.specs.Group.{Group}
-use Rattle.netlist.specs.Alike.{renamed_row, renamed_law, nodes_of, nodes_in, variables_in}
+use Rattle.likeness.specs.Alike.{nodes_of, nodes_in, variables_in}
+use Rattle.netlist.specs.Renaming.{renamed_row, renamed_law}
 use Rattle.network.specs.Walks.{read}
 use Rattle.likeness.specs.Agreeing.{ReadItself, ReadBack, ReadOnward}
 use Rattle.likeness.specs.Turning.{unchanged, onward, AlikeItself, AlikeBack, AlikeOnward}

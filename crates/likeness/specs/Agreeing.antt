@@ -3,7 +3,8 @@ use Rattle.std.specs.Prelude.{◌≡◌, List, length, ◌↔◌}
 use Rattle.std.specs.List.{AllByRecursion}
 use Rattle.quantity.specs.Group.{Group}
 use Rattle.netlist.specs.Netlist.{Netlist}
-use Rattle.netlist.specs.Alike.{Renaming, Alike, variables_in}
+use Rattle.likeness.specs.Alike.{Alike, variables_in}
+use Rattle.netlist.specs.Renaming.{Renaming}
 use Rattle.network.specs.Flows.{SetsKeep}
 use Rattle.network.specs.Laws.{LawsHold}
 use Rattle.network.specs.Walks.{read, network_of, WalksClose}

@@ -1,7 +1,8 @@
 -- That being alike leads back, and on from one netlist to a third.
 use Rattle.std.specs.Prelude.{◌≡◌}
 use Rattle.netlist.specs.Netlist.{Netlist}
-use Rattle.netlist.specs.Alike.{Renaming, Alike}
+use Rattle.likeness.specs.Alike.{Alike}
+use Rattle.netlist.specs.Renaming.{Renaming}
 
 -- each number stays
 abbrev pub unchanged : Renaming

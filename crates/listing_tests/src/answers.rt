@@ -1,5 +1,5 @@
 //! What a call answered, as a line: the number it gave, or the refusal.
-use netlist::refusals::Refusal;
+use draft::refusals::Refusal;
 
 pub(crate) fn tell(
     rt: &HostRuntime,

@@ -4,7 +4,8 @@ use Rattle.std.proofs.lemmas.List.{length_push, get_or_append_left}
 use Rattle.std.proofs.lemmas.Bool.{and_parts, and_from, ltb-true, lt-ltb, eqb-true, eq-eqb}
 use Rattle.netlist.specs.declared.rows.Row.{Row}
 use Rattle.netlist.specs.declared.rows.Row.TheVariants.{Branch, Earth}
-use Rattle.netlist.specs.Sound.{joins, every}
+use Rattle.netlist.specs.Sound.{joins}
+use Rattle.std.specs.List.{list_all}
 use Rattle.netlist.proofs.Every.{every_weaker}
 
 -- a node more
@@ -23,5 +24,5 @@ joins_node ds d (Earth flow across node) h =
     let long = length_push ds d in
     lt-ltb node _ (omega arith)
 
-pub all_join_node : (ds : List ℕ) (d : ℕ) (rows : List (Row ℕ)) → every (joins ds) rows ≡ true → every (joins (ds ++ d ∷ [])) rows ≡ true
+pub all_join_node : (ds : List ℕ) (d : ℕ) (rows : List (Row ℕ)) → list_all (joins ds) rows ≡ true → list_all (joins (ds ++ d ∷ [])) rows ≡ true
 all_join_node ds d rows h = every_weaker (joins ds) (joins (ds ++ d ∷ [])) (joins_node ds d) rows h

@@ -1,6 +1,5 @@
 -- What a lent buffer holds after something is written into it.
 use Rattle.std.specs.Prelude.{ℕ, ◌+◌, List, ◌++◌, length, take, drop, Some, None, Option}
-use Rattle.netlist.specs.declared.refusals.Refusal.{Refusal}
 
 -- old, with new written over it from place at on
 abbrev pub written : {X : Type 0} → List X → ℕ → List X → List X
@@ -10,7 +9,7 @@ written old at new = (take at old ++ new) ++ drop (at + length new) old
 abbrev pub over : {X : Type 0} → List X → List X → List X
 over old new = new ++ drop (length new) old
 
--- a call that writes new, or is refused and touches nothing
-abbrev pub filled : {X : Type 0} → Option Refusal → List X → List X → List X
+-- a call that writes new, or is refused and touches nothing; R is what tells why
+abbrev pub filled : {R X : Type 0} → Option R → List X → List X → List X
 filled None old new = over old new
 filled (Some why) old new = old

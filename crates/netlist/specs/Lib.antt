@@ -1,11 +1,10 @@
 pub mod Domains
 pub mod Orders
 pub mod Rows
+pub mod Limits
 pub mod Netlist
-pub mod Refusals
-pub mod Rules
 pub mod Sound
 pub mod Flags
 pub mod Pieces
 pub mod Buffers
-pub mod Alike
+pub mod Renaming

@@ -31,13 +31,14 @@ term_of t = record { coefficient = t.coefficient; order = order_of t.order; vari
 
 -- A netlist with more in it. What is new comes last, so nothing is renumbered.
 abbrev pub with_nodes : Netlist → List ℕ → Netlist
-with_nodes b new = record { domains = b.domains ++ new; variables = b.variables; rows = b.rows; laws = b.laws }
+with_nodes b new = record b { domains = b.domains ++ new }
 
 abbrev pub with_variables : Netlist → ℕ → Netlist
-with_variables b count = record { domains = b.domains; variables = b.variables + count; rows = b.rows; laws = b.laws }
+with_variables b count = record b { variables = b.variables + count }
 
 abbrev pub with_rows : Netlist → List (Row ℕ) → Netlist
-with_rows b new = record { domains = b.domains; variables = b.variables; rows = b.rows ++ new; laws = b.laws }
+with_rows b new = record b { rows = b.rows ++ new }
 
+-- laws as they are written
 abbrev pub with_laws : Netlist → List (List (RawTerm ℕ)) → Netlist
-with_laws b new = record { domains = b.domains; variables = b.variables; rows = b.rows; laws = b.laws ++ map (map term_of) new }
+with_laws b new = record b { laws = b.laws ++ map (map term_of) new }

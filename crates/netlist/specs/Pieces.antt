@@ -1,10 +1,6 @@
 -- Lists that stand one after another in one table, each known by its length.
-use Rattle.std.specs.Prelude.{ℕ, ◌+◌, List, [], ◌∷◌, take, drop}
+use Rattle.std.specs.Prelude.{ℕ, List, [], ◌∷◌, take, drop}
 use Rattle.std.specs.List.{flat_map}
-
-abbrev pub total : List ℕ → ℕ
-total [] = 0
-total (n ∷ ns) = n + total ns
 
 -- the table, cut into pieces of these lengths
 abbrev pub pieces : {X : Type 0} → List ℕ → List X → List (List X)

@@ -1,5 +1,5 @@
 -- What a row names.
-use Rattle.std.specs.Prelude.{ℕ, ◌+◌, Bool, cond, List, [], ◌∷◌, ◌==◌}
+use Rattle.std.specs.Prelude.{ℕ, ◌+◌, Bool, cond, List, [], ◌∷◌, ◌==◌, nat_lt}
 use Rattle.netlist.specs.declared.rows.Row.{Row}
 use Rattle.netlist.specs.declared.rows.Row.TheVariants.{Branch, Earth}
 
@@ -22,3 +22,7 @@ hits row v = bit (flow_of row == v) + bit (across_of row == v)
 abbrev pub uses : List (Row ℕ) → ℕ → ℕ
 uses [] v = 0
 uses (row ∷ rows) v = hits row v + uses rows v
+
+-- a variable is taken once a row has it
+abbrev pub taken_by : List (Row ℕ) → ℕ → Bool
+taken_by rows v = nat_lt 0 (uses rows v)

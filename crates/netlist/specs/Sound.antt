@@ -1,16 +1,13 @@
--- What holds of every netlist that the calls can draw.
-use Rattle.std.specs.Prelude.{◌≡◌, ℕ, ◌<◌, ◌≤◌, Bool, true, not, ◌&&◌, List, [], ◌∷◌, length, ◌==◌, nat_lt, slice_index, slice_index_or}
+-- What holds of every netlist that can be drawn.
+use Rattle.std.specs.Prelude.{◌≡◌, ℕ, ◌<◌, ◌≤◌, Bool, true, not, ◌&&◌, List, [], length, ◌==◌, nat_lt, slice_index, slice_index_or}
+use Rattle.std.specs.List.{list_all}
 use Rattle.netlist.specs.declared.rows.Row.{Row}
 use Rattle.netlist.specs.declared.rows.Row.TheVariants.{Branch, Earth}
 use Rattle.netlist.specs.declared.terms.Term.{Term}
 use Rattle.netlist.specs.Domains.{no_domain}
+use Rattle.netlist.specs.Limits.{most_nodes, most_variables, most_rows, most_laws, most_terms, no_coefficient, no_term_count}
 use Rattle.netlist.specs.Netlist.{Netlist, term_count}
 use Rattle.netlist.specs.Rows.{uses}
-use Rattle.netlist.specs.Rules.{no_coefficient, no_term_count}
-
-abbrev pub every : {X : Type 0} → (X → Bool) → List X → Bool
-every p [] = true
-every p (x ∷ xs) = p x && every p xs
 
 abbrev pub is_domain : ℕ → Bool
 is_domain d = not (no_domain d)
@@ -34,23 +31,23 @@ is_term_count n = not (no_term_count n)
 
 -- no table is past its limit
 pub record Within (b : Netlist) : Type 0 where
-  pub nodes : length b.domains ≤ 1000
-  pub variables : b.variables ≤ 4000
-  pub rows : length b.rows ≤ 1500
-  pub laws : length b.laws ≤ 1500
-  pub terms : term_count b.laws ≤ 6000
+  pub nodes : length b.domains ≤ most_nodes
+  pub variables : b.variables ≤ most_variables
+  pub rows : length b.rows ≤ most_rows
+  pub laws : length b.laws ≤ most_laws
+  pub terms : term_count b.laws ≤ most_terms
 
 -- what a law keeps to, over variables 0 to n - 1
 pub record Lawful (n : ℕ) (law : List Term) : Type 0 where
   pub count : is_term_count (length law) ≡ true
-  pub named : every (names n) law ≡ true
-  pub sized : every is_sized law ≡ true
+  pub named : list_all (names n) law ≡ true
+  pub sized : list_all is_sized law ≡ true
 
 pub record Sound (b : Netlist) : Type 0 where
   -- every domain is one of the four
-  pub domains : every is_domain b.domains ≡ true
+  pub domains : list_all is_domain b.domains ≡ true
   -- each row names drawn nodes, a branch two of one domain
-  pub joined : every (joins b.domains) b.rows ≡ true
+  pub joined : list_all (joins b.domains) b.rows ≡ true
   -- no variable is taken twice
   pub once : (v : ℕ) → uses b.rows v ≤ 1
   -- and none that is not drawn

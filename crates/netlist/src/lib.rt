@@ -1,8 +1,8 @@
-//! The vocabulary of a netlist: domains, rows and terms, and the reasons for which a call is refused.
+//! The vocabulary of a netlist: domains, rows, terms and limits.
 #![tactic(auto)]
 
 pub mod domains;
-pub mod refusals;
+pub mod limits;
 pub mod rows;
 pub mod spans;
 pub mod terms;

@@ -3,9 +3,6 @@ ghost use Rattle.std.specs.Prelude.{◌≡◌};
 ghost use Rattle.netlist.specs.declared.terms.Order.TheVariants.{Value};
 ghost use Rattle.netlist.specs.Orders.{IsOrderOf};
 
-/// A law has one to so many terms.
-pub const MOST_TERMS: usize = 8;
-
 /// Whether a term takes the variable itself or its rate of change. Callers name one by its number: 0 is
 /// the value, 1 the rate.
 #[derive(Clone, Copy, PartialEq, Eq, Debug)]

@@ -4,7 +4,8 @@ use Rattle.std.proofs.lemmas.List.{length-take, length-drop, drop-drop, drop_all
 use Rattle.std.proofs.lemmas.Bool.{and_parts, eqb-true}
 use Rattle.netlist.specs.declared.spans.Span.{Span}
 use Rattle.netlist.specs.Pieces.{flat}
-use Rattle.netlist.specs.Sound.{every, is_term_count}
+use Rattle.netlist.specs.Sound.{is_term_count}
+use Rattle.std.specs.List.{list_all}
 use Rattle.assembly.specs.Plans.{PlanTerm}
 use Rattle.parts.specs.Tables.{begins, fill, law_in}
 
@@ -24,7 +25,7 @@ part_within at (s ∷ ss) n zero d h within = first_within at s ss n h
 part_within at (s ∷ ss) n (suc k) d h within = grind (arith, part_within (at + s.length) ss n k d)
 
 -- and has one to eight terms
-pub law_lengths : (terms : List PlanTerm) (at : ℕ) (ss : List Span) → fill at ss (length terms) ≡ true → every is_term_count (map length (map (law_in terms) ss)) ≡ true
+pub law_lengths : (terms : List PlanTerm) (at : ℕ) (ss : List Span) → fill at ss (length terms) ≡ true → list_all is_term_count (map length (map (law_in terms) ss)) ≡ true
 law_lengths terms at [] h = refl
 law_lengths terms at (s ∷ ss) h =
     let all : length (law_in terms s) ≡ s.length = simp (length-take, length-drop) (omega (arith, first_within at s ss (length terms) h)) in

@@ -2,12 +2,12 @@
 use Rattle.std.proofs.Common.{◌≡◌, ℕ, ◌+◌, ◌-◌, ◌<◌, ◌≤◌, Bool, true, length, map, get_or, take, drop, Some, None, sym, refl, ap, ◌∙◌, arith}
 use Rattle.std.specs.Bool.{then_some}
 use Rattle.std.specs.Option.{option_map}
-use Rattle.std.specs.List.{slice_get, slice_range}
+use Rattle.std.specs.List.{slice_get, slice_range, list_all}
 use Rattle.std.proofs.lemmas.List.{length-map}
 use Rattle.std.proofs.lemmas.Option.{slice_get-map, slice_get_read}
 use Rattle.netlist.specs.declared.spans.Span.{Span}
 use Rattle.netlist.specs.Pieces.{flat}
-use Rattle.netlist.specs.Sound.{every, is_domain}
+use Rattle.netlist.specs.Sound.{is_domain}
 use Rattle.netlist.proofs.Every.{every_at}
 use Rattle.assembly.specs.Meaning.{Bounded, Proper, plan, domains_of, laws_of}
 use Rattle.assembly.proofs.Nth.{nth_two}
@@ -18,7 +18,7 @@ use Rattle.parts.specs.Numbers.{domain_at, domain_of}
 use Rattle.parts.specs.Tables.{is_sound, fill, law_in, plan_of}
 use Rattle.parts.proofs.Filled.{part_within, law_lengths, flat_filled}
 
-inner_domains : (t : Tables) → is_sound t ≡ true → every is_domain t.inner.now ≡ true
+inner_domains : (t : Tables) → is_sound t ≡ true → list_all is_domain t.inner.now ≡ true
 inner_domains t sound = grind arith
 
 filled : (t : Tables) → is_sound t ≡ true → fill 0 t.laws.now (length t.terms.now) ≡ true

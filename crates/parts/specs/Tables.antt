@@ -1,7 +1,8 @@
 -- What a plan in tables means.
 use Rattle.std.specs.Prelude.{ℕ, ◌+◌, Bool, cond, ◌&&◌, List, [], ◌∷◌, map, length, take, drop, ◌==◌}
 use Rattle.netlist.specs.declared.spans.Span.{Span}
-use Rattle.netlist.specs.Sound.{every, is_domain, is_term_count}
+use Rattle.netlist.specs.Sound.{is_domain, is_term_count}
+use Rattle.std.specs.List.{list_all}
 use Rattle.assembly.specs.Plans.{PlanTerm}
 use Rattle.assembly.specs.declared.plans.Size.{Size}
 use Rattle.assembly.specs.Meaning.{Meaning, void, plan, Plan, is_small}
@@ -33,7 +34,7 @@ is_sound t =
     is_small (size_told t)
     && (is_domain t.first
     && (is_domain t.second
-    && (every is_domain t.inner.now
+    && (list_all is_domain t.inner.now
     && fill 0 t.laws.now (length t.terms.now))))
 
 -- the terms of a law, as its part of the table has them

@@ -1,6 +1,7 @@
 //! A plan in tables that the caller lends, and when such tables are sound.
 ghost use Rattle.std.specs.Prelude.{◌≡◌, ◌≤◌, length};
-ghost use Rattle.netlist.specs.Sound.{every, is_domain};
+ghost use Rattle.netlist.specs.Sound.{is_domain};
+ghost use Rattle.std.specs.List.{list_all};
 ghost use Rattle.parts.specs.Tables.{begins, fill, size_told, is_sound};
 
 use super::numbers::{is_domain, is_term_count};
@@ -22,7 +23,7 @@ pub struct Tables<'a> {
 }
 
 fn all_domains(numbers: &[u32]) -> bool
-    ensures { result ≡ every is_domain numbers.now }
+    ensures { result ≡ list_all is_domain numbers.now }
 {
     numbers.iter().all(|n| is_domain(*n))
 }

@@ -5,16 +5,17 @@ use Rattle.std.specs.Option.{option_map, option_or}
 use Rattle.std.proofs.lemmas.Bool.{cond-false, lt-leb}
 use Rattle.std.proofs.lemmas.List.{append-nil, append_assoc, map_push, length-append, length-map, length-take-le, take-map}
 use Rattle.std.proofs.lemmas.Option.{slice_get_within, slice_get-map}
-use Rattle.netlist.specs.declared.refusals.Refusal.{Refusal}
-use Rattle.netlist.specs.declared.refusals.Refusal.TheVariants.{PlanRow, PlanLaw}
+use Rattle.draft.specs.declared.refusals.Refusal.{Refusal}
+use Rattle.draft.specs.declared.refusals.Refusal.TheVariants.{PlanRow, PlanLaw}
 use Rattle.netlist.specs.declared.rows.Row.{Row}
 use Rattle.netlist.specs.declared.terms.RawTerm.{RawTerm}
 use Rattle.netlist.specs.declared.terms.Term.{Term}
 use Rattle.netlist.specs.Netlist.{Netlist, term_of, term_count, with_nodes, with_rows, with_laws}
-use Rattle.netlist.specs.Refusals.{number}
-use Rattle.netlist.specs.Rules.{first_of, table_row, room_row, judge_row, table_law, room_law, judge_law}
-use Rattle.netlist.proofs.Rooms.{room_left}
-use Rattle.netlist.proofs.Tables.{passed_over}
+use Rattle.draft.specs.Refusals.{number}
+use Rattle.draft.specs.Rules.{table_row, room_row, judge_row, table_law, room_law, judge_law}
+use Rattle.refusal.specs.Tests.{first_of}
+use Rattle.draft.proofs.Rooms.{room_left}
+use Rattle.refusal.proofs.Tables.{passed_over}
 use Rattle.plan_judging.specs.Alone.{judge_rows, judge_laws}
 use Rattle.plan_judging.proofs.Gathered.{count_next}
 use Rattle.plan_judging.proofs.Turns.{take_place}

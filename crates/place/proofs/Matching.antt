@@ -5,16 +5,18 @@ use Rattle.std.specs.Option.{option_map, option_or}
 use Rattle.std.proofs.lemmas.Bool.{cond-false, le-ltb, lt-leb}
 use Rattle.std.proofs.lemmas.List.{length-append, length-map, get_or_append_left, get_or-append-add}
 use Rattle.netlist.specs.declared.domains.Domain.{Domain}
-use Rattle.netlist.specs.declared.refusals.Argument.TheVariants.{Flow, Across, First, Second, Node, Term as TermNumber}
-use Rattle.netlist.specs.declared.refusals.Refusal.TheVariants.{NoNode, NoVariable, Domain as DomainDiffers, Taken, Coefficient, TermCount, Order, PlanRow, PlanLaw}
+use Rattle.draft.specs.declared.refusals.Argument.TheVariants.{Flow, Across, First, Second, Node, Term as TermNumber}
+use Rattle.draft.specs.declared.refusals.Refusal.TheVariants.{NoNode, NoVariable, Domain as DomainDiffers, Taken, Coefficient, TermCount, Order, PlanRow, PlanLaw}
 use Rattle.netlist.specs.declared.rows.Row.{Row}
 use Rattle.netlist.specs.declared.rows.Row.TheVariants.{Branch, Earth}
 use Rattle.netlist.specs.declared.terms.RawTerm.{RawTerm}
 use Rattle.netlist.specs.declared.terms.Term.{Term}
 use Rattle.netlist.specs.Domains.{domain_number}
-use Rattle.netlist.specs.Refusals.{number}
-use Rattle.netlist.specs.Rows.{bit, hits, uses}
-use Rattle.netlist.specs.Rules.{first_of, no_node, domain_of, row_tests, taken_by, no_coefficient, no_term_count, table_terms, table_law}
+use Rattle.draft.specs.Refusals.{number}
+use Rattle.netlist.specs.Rows.{bit, hits, uses, taken_by}
+use Rattle.draft.specs.Rules.{no_node, domain_of, row_tests, table_terms, table_law}
+use Rattle.netlist.specs.Limits.{no_coefficient, no_term_count}
+use Rattle.refusal.specs.Tests.{first_of}
 use Rattle.netlist.proofs.Taking.{uses_push}
 use Rattle.plan_judging.specs.Alone.{judge_rows, judge_laws}
 use Rattle.plan_judging.specs.Terms.{counted_on, law_from}

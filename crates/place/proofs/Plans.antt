@@ -3,11 +3,12 @@ use Rattle.std.proofs.Common.{◌≡◌, ℕ, ◌+◌, List, [], ◌∷◌, ◌+
 use Rattle.std.specs.List.{slice_get}
 use Rattle.std.specs.Option.{IsSome}
 use Rattle.netlist.specs.declared.domains.Domain.{Domain}
-use Rattle.netlist.specs.declared.refusals.Argument.TheVariants.{End}
+use Rattle.draft.specs.declared.refusals.Argument.TheVariants.{End}
 use Rattle.netlist.specs.Netlist.{Netlist}
-use Rattle.netlist.specs.Rules.{Tests, first_of, domain_of}
-use Rattle.netlist.proofs.Tables.{passed_over}
-use Rattle.judging.specs.Judging.{node_tests}
+use Rattle.draft.specs.Rules.{domain_of}
+use Rattle.refusal.specs.Tests.{Tests, first_of}
+use Rattle.refusal.proofs.Tables.{passed_over}
+use Rattle.draft.specs.Judging.{node_tests}
 use Rattle.assembly.specs.declared.plans.Size.{Size}
 use Rattle.assembly.specs.Meaning.{Meaning, void, plan, Proper, size_of, domains_of}
 use Rattle.assembly.proofs.Nth.{nth_append_right}

@@ -1,12 +1,12 @@
 -- What is asked of an assembly that is placed.
 use Rattle.std.specs.Prelude.{ℕ, not, List, [], ◌∷◌, Some, Option, ◌==◌}
 use Rattle.netlist.specs.declared.domains.Domain.{Domain}
-use Rattle.netlist.specs.declared.refusals.Argument.{Argument}
-use Rattle.netlist.specs.declared.refusals.Refusal.{Refusal}
-use Rattle.netlist.specs.declared.refusals.Refusal.TheVariants.{Domain as DomainDiffers, Void}
+use Rattle.draft.specs.declared.refusals.Argument.{Argument}
+use Rattle.draft.specs.declared.refusals.Refusal.{Refusal}
+use Rattle.draft.specs.declared.refusals.Refusal.TheVariants.{Domain as DomainDiffers, Void}
 use Rattle.netlist.specs.Domains.{domain_number}
 use Rattle.netlist.specs.Netlist.{Netlist}
-use Rattle.netlist.specs.Rules.{Tests}
+use Rattle.refusal.specs.Tests.{Tests}
 use Rattle.assembly.specs.Meaning.{Meaning, void, plan, Plan}
 use Rattle.place.specs.Place.{judge_ends}
 

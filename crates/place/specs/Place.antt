@@ -2,12 +2,13 @@
 use Rattle.std.specs.Prelude.{ℕ, ◌+◌, not, List, [], ◌∷◌, ◌++◌, length, Some, Option, Result, ◌==◌}
 use Rattle.std.specs.Option.{option_or}
 use Rattle.netlist.specs.declared.domains.Domain.{Domain}
-use Rattle.netlist.specs.declared.refusals.Argument.TheVariants.{End}
-use Rattle.netlist.specs.declared.refusals.Refusal.{Refusal}
-use Rattle.netlist.specs.declared.refusals.Refusal.TheVariants.{NoNode, Domain as DomainDiffers, Void}
+use Rattle.draft.specs.declared.refusals.Argument.TheVariants.{End}
+use Rattle.draft.specs.declared.refusals.Refusal.{Refusal}
+use Rattle.draft.specs.declared.refusals.Refusal.TheVariants.{NoNode, Domain as DomainDiffers, Void}
 use Rattle.netlist.specs.Domains.{domain_number}
 use Rattle.netlist.specs.Netlist.{Netlist, term_count}
-use Rattle.netlist.specs.Rules.{Tests, first_of, answer, after, no_node, domain_of}
+use Rattle.draft.specs.Rules.{no_node, domain_of}
+use Rattle.refusal.specs.Tests.{Tests, first_of, answer, after}
 use Rattle.sheet.specs.declared.counts.Counts.{Counts}
 use Rattle.sheet.specs.Counting.{counts_of, room_tests}
 use Rattle.assembly.specs.Meaning.{Meaning, void, plan, Plan}

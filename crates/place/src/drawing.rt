@@ -2,7 +2,7 @@
 ghost use Rattle.std.specs.Prelude.{◌≡◌, ◌+◌, ◌≤◌, length, map, None, Some};
 ghost use Rattle.netlist.specs.Domains.{domain_number};
 ghost use Rattle.netlist.specs.Netlist.{term_count, with_nodes, with_rows, with_laws};
-ghost use Rattle.netlist.specs.Rules.{answer_row, after_row};
+ghost use Rattle.draft.specs.Rules.{answer_row, after_row};
 ghost use Rattle.assembly.specs.Meaning.{Proper, size_of, laws_of, rows_of};
 ghost use Rattle.plan_judging.specs.Alone.{judge_rows, judge_laws};
 ghost use Rattle.plan_judging.specs.Terms.{law_from};
@@ -14,7 +14,7 @@ ghost use Rattle.place.specs.Seats.{Behind, given, seated_row};
 use crate::seats::Seat;
 use assembly::Assembly;
 use assembly::plans::Size;
-use netlist::refusals::Refusal;
+use draft::refusals::Refusal;
 use netlist::rows::Row;
 use plan_judging::terms::LawTerms;
 use sheet::Draft;

@@ -1,16 +1,16 @@
 //! The nodes that an assembly's ends are placed at.
 ghost use Rattle.std.specs.Prelude.{◌≡◌, [], ◌∷◌, Some};
 ghost use Rattle.netlist.specs.Domains.{domain_number};
-ghost use Rattle.netlist.specs.Rules.{first_of};
-ghost use Rattle.judging.specs.Judging.{Accepts, Tells};
+ghost use Rattle.refusal.specs.Tests.{first_of};
+ghost use Rattle.refusal.specs.Answers.{Accepts, Tells};
 ghost use Rattle.assembly.specs.Meaning.{Proper, size_of};
 ghost use Rattle.place.specs.Parts.{judge_void_ends, domain_tests};
 
 use assembly::Assembly;
 use assembly::plans::Size;
-use judging::rows::find_node;
+use draft::rows::find_node;
 use netlist::domains::Domain;
-use netlist::refusals::{Argument, Refusal};
+use draft::refusals::{Argument, Refusal};
 use sheet::Draft;
 
 const FIRST: Argument = Argument::End { end: 0 };

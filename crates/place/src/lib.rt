@@ -12,7 +12,7 @@ use assembly::Assembly;
 use assembly::plans::Size;
 use drawing::draw;
 use ends::judge_ends;
-use netlist::refusals::Refusal;
+use draft::refusals::Refusal;
 use plan_judging::judge_plan;
 use seats::Seat;
 use sheet::{Counts, Draft};

@@ -1,6 +1,6 @@
 //! Why an assembly is not placed: the first of its faults is told.
 use assembly::plans::{PlanRow, PlanTerm};
-use netlist::refusals::{Refusal, Table};
+use draft::refusals::{Refusal, Table};
 use netlist::spans::Span;
 use parts::single::Single;
 use parts::stored::Stored;

@@ -2,7 +2,7 @@
 use assembly::Assembly;
 use assembly::plans::Size;
 use equation::lines::line;
-use netlist::refusals::{Refusal, Table};
+use draft::refusals::{Refusal, Table};
 use netlist::rows::Row;
 use parts::single::Single;
 use place::place;

@@ -3,8 +3,9 @@ use Rattle.std.proofs.Common.{◌≡◌, ℕ, Bool, true, false, List, refl, ap,
 use Rattle.std.specs.Prelude.{nat_lt}
 use Rattle.netlist.specs.declared.rows.Row.{Row}
 use Rattle.netlist.specs.Flags.{Marked, flag_up}
-use Rattle.netlist.specs.Rows.{bit}
-use Rattle.netlist.specs.Rules.{first_of, row_tests, taken_by}
+use Rattle.netlist.specs.Rows.{bit, taken_by}
+use Rattle.draft.specs.Rules.{row_tests}
+use Rattle.refusal.specs.Tests.{first_of}
 
 told : (b : Bool) → nat_lt 0 (bit b) ≡ b
 told true = refl

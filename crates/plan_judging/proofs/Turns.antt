@@ -4,13 +4,14 @@ use Rattle.std.specs.List.{slice_get}
 use Rattle.std.specs.Option.{option_map, option_or}
 use Rattle.std.proofs.lemmas.List.{at_drop_more, take_more}
 use Rattle.std.proofs.lemmas.Option.{slice_get_within, get_or_from_slice_get}
-use Rattle.netlist.specs.declared.refusals.Refusal.{Refusal}
-use Rattle.netlist.specs.declared.refusals.Refusal.TheVariants.{PlanRow, PlanLaw}
+use Rattle.draft.specs.declared.refusals.Refusal.{Refusal}
+use Rattle.draft.specs.declared.refusals.Refusal.TheVariants.{PlanRow, PlanLaw}
 use Rattle.netlist.specs.declared.rows.Row.{Row}
 use Rattle.netlist.specs.declared.terms.RawTerm.{RawTerm}
 use Rattle.netlist.specs.Netlist.{Netlist}
-use Rattle.netlist.specs.Refusals.{number}
-use Rattle.netlist.specs.Rules.{first_of, table_row, table_law}
+use Rattle.draft.specs.Refusals.{number}
+use Rattle.draft.specs.Rules.{table_row, table_law}
+use Rattle.refusal.specs.Tests.{first_of}
 use Rattle.plan_judging.specs.Alone.{judge_rows, judge_laws}
 
 -- what stands at a place of a list

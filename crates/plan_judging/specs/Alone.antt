@@ -1,14 +1,15 @@
 -- What is wrong with a plan by itself.
 use Rattle.std.specs.Prelude.{ℕ, ◌+◌, List, [], ◌∷◌, ◌++◌, map, None, Some, Option}
 use Rattle.std.specs.Option.{option_map, option_or}
-use Rattle.netlist.specs.declared.refusals.Refusal.{Refusal}
-use Rattle.netlist.specs.declared.refusals.Refusal.TheVariants.{Void, PlanRow, PlanLaw}
+use Rattle.draft.specs.declared.refusals.Refusal.{Refusal}
+use Rattle.draft.specs.declared.refusals.Refusal.TheVariants.{Void, PlanRow, PlanLaw}
 use Rattle.netlist.specs.declared.rows.Row.{Row}
 use Rattle.netlist.specs.declared.terms.RawTerm.{RawTerm}
 use Rattle.netlist.specs.Domains.{domain_number}
 use Rattle.netlist.specs.Netlist.{Netlist, with_rows}
-use Rattle.netlist.specs.Refusals.{number}
-use Rattle.netlist.specs.Rules.{first_of, table_row, table_law}
+use Rattle.draft.specs.Refusals.{number}
+use Rattle.draft.specs.Rules.{table_row, table_law}
+use Rattle.refusal.specs.Tests.{first_of}
 use Rattle.assembly.specs.Meaning.{Meaning, void, plan, Plan}
 
 -- The rows in turn, the first of them row k of the plan, each with those before it drawn. Room does not count.

@@ -1,14 +1,14 @@
 //! The laws of a plan are judged in turn.
 ghost use Rattle.std.specs.Prelude.{◌≡◌, ◌≤◌, length};
 ghost use Rattle.netlist.specs.Netlist.{term_count};
-ghost use Rattle.judging.specs.Judging.{Accepts};
+ghost use Rattle.refusal.specs.Answers.{Accepts};
 ghost use Rattle.assembly.specs.Meaning.{Proper, laws_of};
 ghost use Rattle.plan_judging.specs.Alone.{judge_laws};
 
 use crate::terms::LawTerms;
 use assembly::Assembly;
-use judging::laws::accept_terms;
-use netlist::refusals::Refusal;
+use draft::laws::accept_terms;
+use draft::refusals::Refusal;
 
 // Judges each law over so many variables, and answers how many terms they have together.
 pub(crate) fn judge_laws<A: Assembly>(

@@ -3,7 +3,7 @@
 
 ghost use Rattle.std.specs.Prelude.{◌≡◌};
 ghost use Rattle.netlist.specs.Netlist.{term_count};
-ghost use Rattle.judging.specs.Judging.{Accepts};
+ghost use Rattle.refusal.specs.Answers.{Accepts};
 ghost use Rattle.assembly.specs.Meaning.{laws_of};
 ghost use Rattle.plan_judging.specs.Alone.{judge_assembly};
 
@@ -14,7 +14,7 @@ pub mod terms;
 
 use assembly::Assembly;
 use assembly::plans::Size;
-use netlist::refusals::Refusal;
+use draft::refusals::Refusal;
 
 /// Refuses a void assembly; else for the first row, or else the first law, that would be refused on the plan's
 /// own nodes and variables with the rows before it. Want of room does not count. Where nothing is refused, it

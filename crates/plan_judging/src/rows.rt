@@ -1,14 +1,14 @@
 //! The rows of a plan are judged in turn.
 ghost use Rattle.std.specs.Prelude.{◌≡◌, ◌≤◌, [], length, map};
 ghost use Rattle.netlist.specs.Domains.{domain_number};
-ghost use Rattle.judging.specs.Judging.{Tells};
+ghost use Rattle.refusal.specs.Answers.{Tells};
 ghost use Rattle.assembly.specs.Meaning.{domains_of, rows_of};
 ghost use Rattle.plan_judging.specs.Alone.{judge_rows};
 
 use crate::setting::PlanSetting;
 use assembly::Assembly;
-use judging::rows::judge_row;
-use netlist::refusals::Refusal;
+use draft::rows::judge_row;
+use draft::refusals::Refusal;
 use netlist::rows::Row;
 
 // Judges each row with those before it drawn. `taken` is lent, and has a flag for each variable.

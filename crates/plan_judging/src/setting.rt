@@ -5,7 +5,7 @@ ghost use Rattle.netlist.specs.Flags.{flag_up};
 ghost use Rattle.assembly.specs.Meaning.{domains_of};
 
 use assembly::Assembly;
-use judging::settings::Setting;
+use draft::settings::Setting;
 use netlist::domains::Domain;
 
 // `taken` has a flag for each variable, up where one of the rows before has it.

@@ -9,7 +9,8 @@ use Rattle.netlist.specs.declared.rows.Row.TheVariants.{Branch, Earth}
 use Rattle.netlist.specs.declared.terms.Term.{Term}
 use Rattle.netlist.specs.Netlist.{Netlist}
 use Rattle.netlist.specs.Rows.{bit, uses, flow_of, across_of}
-use Rattle.netlist.specs.Sound.{every, names, is_sized, is_term_count, joins, Lawful, Sound}
+use Rattle.netlist.specs.Sound.{names, is_sized, is_term_count, joins, Lawful, Sound}
+use Rattle.std.specs.List.{list_all}
 use Rattle.spelling.proofs.Lengths.{Small, AllSmall, line_short}
 use Rattle.netlist.proofs.Every.{every_at}
 use Rattle.spelling.specs.Lines.{line_text}
@@ -31,11 +32,11 @@ sized_below : (t : Term) → is_sized t ≡ true → unsigned_abs t.coefficient 
 sized_below t h = grind (arith, nat_tests)
 
 -- the terms of a law
-law_small : (n : ℕ) (ts : List Term) → n ≤ 4000 → every (names n) ts ≡ true → every is_sized ts ≡ true → AllSmall 7 ts
+law_small : (n : ℕ) (ts : List Term) → n ≤ 4000 → list_all (names n) ts ≡ true → list_all is_sized ts ≡ true → AllSmall 7 ts
 law_small n [] f named sized = tt
 law_small n (t ∷ ts) f named sized =
-    let inside = and_parts (names n t) (every (names n) ts) named in
-    let short = and_parts (is_sized t) (every is_sized ts) sized in
+    let inside = and_parts (names n t) (list_all (names n) ts) named in
+    let short = and_parts (is_sized t) (list_all is_sized ts) sized in
     let size = sized_below t short.0 in
     let low = named_below n t inside.0 in
     (record { digits = length-decimal-le 7 (unsigned_abs t.coefficient) (omega arith) (omega arith) (omega arith); few = omega arith }, law_small n ts f inside.1 short.1)

@@ -1,5 +1,5 @@
 //! Texts that are read to their end, and what is printed of them; and what a fault leaves drawn.
-use netlist::refusals::{Argument, Refusal};
+use draft::refusals::{Argument, Refusal};
 use printing::print_text;
 use sheet::{Counts, Draft};
 use sheet_reader::{TextFault, read, write_fault};

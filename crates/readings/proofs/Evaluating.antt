@@ -10,7 +10,8 @@ use Rattle.netlist.specs.declared.rows.Row.{Row}
 use Rattle.netlist.specs.declared.rows.Row.TheVariants.{Branch, Earth}
 use Rattle.netlist.specs.declared.terms.Term.{Term}
 use Rattle.netlist.specs.Rows.{flow_of, across_of}
-use Rattle.netlist.specs.Sound.{every, names}
+use Rattle.netlist.specs.Sound.{names}
+use Rattle.std.specs.List.{list_all}
 use Rattle.equation.specs.Equations.{plus as plus_term, minus as minus_term, term_at, node_sum, row_equation}
 use Rattle.network.specs.Flows.{crossing, leaves, only, excess}
 use Rattle.network.specs.Laws.{of_order, no_term, term_at as terms_at, law_sum}
@@ -35,10 +36,10 @@ module _ {G : Type 0} (𝓖 : Group G) (n : ℕ) (values rates : List G) (p : �
       let at : t.variable - n ≡ u = omega arith in
       cond-false _ _ _ (le-ltb t.variable n past) ∙ ap p at
 
-  pub law_comes : (ts : List Term) → every (names n) ts ≡ true → sum ts ≡ law_sum 𝓖 ts values rates
+  pub law_comes : (ts : List Term) → list_all (names n) ts ≡ true → sum ts ≡ law_sum 𝓖 ts values rates
   law_comes [] h = refl
   law_comes (t ∷ ts) h =
-      let both = and_parts (names n t) (every (names n) ts) h in
+      let both = and_parts (names n t) (list_all (names n) ts) h in
       ap₂ 𝓖.sum (ap (𝓖.multiple t.coefficient) (cond-true (ltb t.variable n) _ _ both.0)) (law_comes ts both.1)
 
   sum_append : (xs ys : List Term) → sum (xs ++ ys) ≡ 𝓖.sum (sum xs) (sum ys)

@@ -1,7 +1,7 @@
 -- The listed equations of netlists that are alike.
 use Rattle.std.specs.Prelude.{ℕ, ◌↔◌, List}
 use Rattle.quantity.specs.Group.{Group}
-use Rattle.netlist.specs.Alike.{Alike}
+use Rattle.likeness.specs.Alike.{Alike}
 use Rattle.netlist.specs.Netlist.{Netlist}
 use Rattle.netlist.specs.Sound.{Sound}
 use Rattle.likeness.specs.Agreeing.{ReadAlike}

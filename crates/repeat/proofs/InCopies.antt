@@ -1,11 +1,11 @@
 -- Each reply of copies in series, from the part's replies.
 use Rattle.std.proofs.Common.{◌≡◌, ℕ, zero, suc, ◌+◌, ◌-◌, ◌*◌, ◌<◌, ◌≤◌, Bool, true, false, ◌&&◌, List, ◌++◌, map, length, Some, None, Option, sym, refl, ap, ◌∙◌, drop, subst, mul-le-mul_right, arith}
-use Rattle.std.specs.List.{range_with_len, flat_map, slice_get}
+use Rattle.std.specs.List.{range_with_len, flat_map, slice_get, list_all}
 use Rattle.std.specs.Option.{option_map}
 use Rattle.std.proofs.lemmas.List.{length-append, length-map}
 use Rattle.std.proofs.lemmas.Option.{slice_get_past}
 use Rattle.std.proofs.lemmas.Bool.{leb-true, and_right, and_parts, both_ways}
-use Rattle.netlist.specs.Sound.{every, is_term_count}
+use Rattle.netlist.specs.Sound.{is_term_count}
 use Rattle.assembly.specs.Plans.{PlanRow, PlanTerm}
 use Rattle.assembly.specs.declared.plans.Size.{Size}
 use Rattle.assembly.specs.Meaning.{Meaning, void, plan, Plan, Bounded, Proper, size_in, size_of, domains_of, rows_of, laws_of, terms_of, is_small}
@@ -93,7 +93,7 @@ by_copies n P f {m} {w} {c} t =
     rw (t.one_is, t.whole_is, t.part_has, t.times_has, t.whole_has) (f t.one t.one_bounds t.small)
 
 -- The laws of all copies are as long as the part's.
-all_lengths : (n : ℕ) (a : Plan) → Bounded a → (s k : ℕ) → every is_term_count (map length (flat_map (λ i. moved_laws (copy_place (size_in a) n i) a) (range_with_len s k))) ≡ true
+all_lengths : (n : ℕ) (a : Plan) → Bounded a → (s k : ℕ) → list_all is_term_count (map length (flat_map (λ i. moved_laws (copy_place (size_in a) n i) a) (range_with_len s k))) ≡ true
 all_lengths n a p s zero = refl
 all_lengths n a p s (suc k) =
     joined_lengths (moved_laws (copy_place (size_in a) n s) a) (flat_map (λ i. moved_laws (copy_place (size_in a) n i) a) (range_with_len (s + 1) k))

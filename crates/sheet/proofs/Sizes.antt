@@ -3,14 +3,14 @@ use Rattle.std.proofs.Common.{◌≡◌, length, ◌∙◌, arith}
 use Rattle.std.proofs.lemmas.List.{length-map}
 use Rattle.netlist.specs.Domains.{domain_number}
 use Rattle.netlist.specs.Netlist.{term_count}
-use Rattle.netlist.specs.Pieces.{total}
+use Rattle.std.specs.List.{sum}
 use Rattle.netlist.proofs.Cuts.{length_pieces, count_pieces}
 use Rattle.sheet.specs.declared.drafts.Draft.TheInside.{Inside}
 use Rattle.sheet.specs.declared.laws.LawTable.{LawTable}
 use Rattle.sheet.specs.Held.{laws_of, netlist_of}
 
 module _ (t : LawTable) where
-  pub table_cut : total t.lengths.items ≡ length t.terms.items
+  pub table_cut : sum t.lengths.items ≡ length t.terms.items
   table_cut = t.cut ∙ t.terms.ok.0
 
   pub law_count : length (laws_of t) ≡ t.lengths.len

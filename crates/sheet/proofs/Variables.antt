@@ -5,7 +5,8 @@ use Rattle.std.proofs.lemmas.Bool.{ltb-true, lt-ltb}
 use Rattle.netlist.specs.declared.rows.Row.{Row}
 use Rattle.netlist.specs.declared.terms.Term.{Term}
 use Rattle.netlist.specs.Flags.{Marked}
-use Rattle.netlist.specs.Sound.{every, names}
+use Rattle.netlist.specs.Sound.{names}
+use Rattle.std.specs.List.{list_all}
 use Rattle.netlist.proofs.Every.{every_weaker}
 use Rattle.netlist.proofs.Taking.{marked_variable}
 
@@ -17,5 +18,5 @@ marked_more (suc n) taken rows h =
     (marked_more n (taken ++ false ∷ []) rows (marked_variable taken rows h))
 
 -- and what names a variable still does
-pub named_more : (m n : ℕ) (ts : List Term) → m ≤ n → every (names m) ts ≡ true → every (names n) ts ≡ true
+pub named_more : (m n : ℕ) (ts : List Term) → m ≤ n → list_all (names m) ts ≡ true → list_all (names n) ts ≡ true
 named_more m n ts le h = every_weaker (names m) (names n) (λ t k. lt-ltb t.variable n (omega (arith, ltb-true t.variable m k))) ts h

@@ -5,7 +5,7 @@ use Rattle.netlist.specs.Domains.{domain_number}
 use Rattle.netlist.specs.Sound.{Sound, is_domain}
 use Rattle.netlist.proofs.Every.{every_from, every_map}
 use Rattle.netlist.proofs.Lawful.{lawful_pieces}
-use Rattle.netlist.proofs.Rooms.{domain_named}
+use Rattle.netlist.proofs.Named.{domain_named}
 use Rattle.netlist.proofs.Taking.{marked_once, marked_drawn}
 use Rattle.sheet.specs.declared.drafts.Draft.TheInside.{Inside}
 use Rattle.sheet.specs.Held.{netlist_of, Kept}

@@ -1,9 +1,9 @@
 -- How much a netlist has of each thing, and whether so much more finds room.
 use Rattle.std.specs.Prelude.{ℕ, ◌+◌, [], ◌∷◌, length, nat_lt}
-use Rattle.netlist.specs.declared.refusals.Refusal.TheVariants.{Limit}
-use Rattle.netlist.specs.declared.refusals.Table.TheVariants.{Nodes, Variables, Rows, Laws, Terms}
+use Rattle.draft.specs.declared.refusals.Refusal.TheVariants.{Limit}
+use Rattle.draft.specs.declared.refusals.Table.TheVariants.{Nodes, Variables, Rows, Laws, Terms}
 use Rattle.netlist.specs.Netlist.{Netlist, term_count}
-use Rattle.netlist.specs.Rules.{Tests}
+use Rattle.refusal.specs.Tests.{Tests}
 use Rattle.sheet.specs.declared.counts.Counts.{Counts}
 
 abbrev pub counts_of : Netlist → Counts

@@ -5,7 +5,8 @@ use Rattle.netlist.specs.Domains.{domain_number}
 use Rattle.netlist.specs.Flags.{Marked}
 use Rattle.netlist.specs.Netlist.{Netlist}
 use Rattle.netlist.specs.Pieces.{pieces}
-use Rattle.netlist.specs.Sound.{every, joins, names}
+use Rattle.netlist.specs.Sound.{joins, names}
+use Rattle.std.specs.List.{list_all}
 use Rattle.sheet.specs.declared.drafts.Draft.TheInside.{Inside}
 use Rattle.sheet.specs.declared.laws.LawTable.{LawTable}
 use Rattle.sheet.specs.Room.{Roomy}
@@ -28,8 +29,8 @@ pub record Kept (d : Inside) : Type 0 where
   pub variables_fit : Roomy d.taken 4000
   pub rows_fit : Roomy d.rows 1500
   -- each row names drawn nodes, a branch two of one domain
-  pub joined : every (joins (map domain_number d.domains.items)) d.rows.items ≡ true
+  pub joined : list_all (joins (map domain_number d.domains.items)) d.rows.items ≡ true
   -- a variable's flag is up where a row has the variable
   pub marked : Marked d.taken.items d.rows.items
   -- each term names a drawn variable
-  pub named : every (names (vec_len d.taken)) d.laws.terms.items ≡ true
+  pub named : list_all (names (vec_len d.taken)) d.laws.terms.items ≡ true

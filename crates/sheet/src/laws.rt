@@ -1,7 +1,8 @@
 //! The laws of a draft, in tables that never need memory again.
 ghost use Rattle.std.specs.Prelude.{◌≡◌, true};
-ghost use Rattle.netlist.specs.Pieces.{total};
-ghost use Rattle.netlist.specs.Sound.{every, is_sized, is_term_count};
+ghost use Rattle.std.specs.List.{sum};
+ghost use Rattle.netlist.specs.Sound.{is_sized, is_term_count};
+ghost use Rattle.std.specs.List.{list_all};
 ghost use Rattle.sheet.specs.Room.{Roomy};
 
 use netlist::terms::Term;
@@ -21,7 +22,7 @@ pub(crate) struct LawTable {
     terms: Vec<Term>,
     ghost laws_fit: { Roomy lengths 1500 },
     ghost terms_fit: { Roomy terms 6000 },
-    ghost cut: { total lengths.items ≡ terms.len },
-    ghost counted: { every is_term_count lengths.items ≡ true },
-    ghost sized: { every is_sized terms.items ≡ true },
+    ghost cut: { sum lengths.items ≡ terms.len },
+    ghost counted: { list_all is_term_count lengths.items ≡ true },
+    ghost sized: { list_all is_sized terms.items ≡ true },
 }

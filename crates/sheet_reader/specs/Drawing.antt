@@ -1,10 +1,10 @@
 -- What a command does to a netlist: that of the call that it names.
 use Rattle.std.specs.Prelude.{ℕ, List, [], ◌∷◌, take, ℤ, pos, None, Option, slice_index_or}
-use Rattle.netlist.specs.declared.refusals.Refusal.{Refusal}
+use Rattle.draft.specs.declared.refusals.Refusal.{Refusal}
 use Rattle.netlist.specs.declared.rows.Row.TheVariants as row
 use Rattle.netlist.specs.declared.terms.RawTerm.{RawTerm}
 use Rattle.netlist.specs.Netlist.{Netlist}
-use Rattle.netlist.specs.Rules.{judge_node, judge_variables, judge_row, judge_law, after_node, after_variables, after_row, after_law}
+use Rattle.draft.specs.Rules.{judge_node, judge_variables, judge_row, judge_law, after_node, after_variables, after_row, after_law}
 use Rattle.assembly.specs.Meaning.{Meaning}
 use Rattle.parts.specs.declared.single.Single.{Single}
 use Rattle.parts.specs.Single.{single}

@@ -1,10 +1,10 @@
 //! A command is drawn: the call that it names is made.
 ghost use Rattle.std.specs.Prelude.{◌≡◌};
-ghost use Rattle.judging.specs.Judging.{Tells};
+ghost use Rattle.refusal.specs.Answers.{Tells};
 ghost use Rattle.sheet_reader.specs.Drawing.{judge_command, after_command};
 
 use commands::Command;
-use netlist::refusals::Refusal;
+use draft::refusals::Refusal;
 use parts::single::Single;
 use place::place;
 use repeat::Repeat;

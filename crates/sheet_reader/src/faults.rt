@@ -5,7 +5,7 @@ ghost use Rattle.netlist.specs.Buffers.{filled};
 ghost use Rattle.spelling.specs.Rules.{judge_text, answer_text};
 ghost use Rattle.sheet_reader.specs.Faults.{line, column, number, place, cause, fault_text, fault_line};
 
-use netlist::refusals::Refusal;
+use draft::refusals::Refusal;
 use spelling::faults::{self, FaultLine};
 use std::fmt;
 

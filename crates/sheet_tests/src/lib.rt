@@ -3,7 +3,7 @@
 
 #[cfg(test)]
 mod tests {
-    use netlist::refusals::{Argument, Refusal};
+    use draft::refusals::{Argument, Refusal};
     use sheet::Draft;
     use std::test::Fail;
 

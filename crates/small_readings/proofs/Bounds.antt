@@ -10,7 +10,8 @@ use Rattle.quantity.specs.Integers.{integers}
 use Rattle.quantity.specs.Wholes.{whole, wholes}
 use Rattle.quantity.specs.declared.numbers.Whole.{Whole}
 use Rattle.netlist.specs.Netlist.{Netlist}
-use Rattle.netlist.specs.Sound.{every, joins, is_sized, is_term_count, Sound}
+use Rattle.netlist.specs.Sound.{joins, is_sized, is_term_count, Sound}
+use Rattle.std.specs.List.{list_all}
 use Rattle.netlist.specs.declared.rows.Row.{Row}
 use Rattle.netlist.specs.declared.rows.Row.TheVariants.{Branch, Earth}
 use Rattle.netlist.specs.declared.terms.Term.{Term}
@@ -52,11 +53,11 @@ module _ (b : Netlist) (sound : Sound b) where
       (λ above. subst (λ (ts : List Term). length ts ≤ 8) (past k above) (omega arith))
       (cases_lt k (length b.laws))
 
-  pub law_sized : (k : ℕ) → every is_sized (law k) ≡ true
+  pub law_sized : (k : ℕ) → list_all is_sized (law k) ≡ true
   law_sized k =
       ⊎_elim
       (λ below. (sound.laws k below).sized)
-      (λ above. subst (λ (ts : List Term). every is_sized ts ≡ true) (past k above) refl)
+      (λ above. subst (λ (ts : List Term). list_all is_sized ts ≡ true) (past k above) refl)
       (cases_lt k (length b.laws))
 
   ends_within : (domains : List ℕ) (row : Row ℕ) → joins domains row ≡ true → (tail_of row < length domains + 1) × (head_of row < length domains + 1)

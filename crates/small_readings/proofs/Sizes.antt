@@ -7,7 +7,8 @@ use Rattle.std.proofs.lemmas.Bool.Decides.{nat_tests}
 use Rattle.std.proofs.Math.Nat.{mul-le-mul}
 use Rattle.quantity.specs.Integers.{integers}
 use Rattle.netlist.specs.Rows.{flow_of}
-use Rattle.netlist.specs.Sound.{every, is_sized}
+use Rattle.netlist.specs.Sound.{is_sized}
+use Rattle.std.specs.List.{list_all}
 use Rattle.netlist.specs.declared.rows.Row.{Row}
 use Rattle.netlist.specs.declared.rows.Row.TheVariants.{Branch, Earth}
 use Rattle.netlist.specs.declared.terms.Order.{Order}
@@ -45,10 +46,10 @@ module _ (most : ℕ) where
   order_size Value values rates low_values low_rates = low_values
   order_size Rate values rates low_values low_rates = low_rates
 
-  pub law_size : (ts : List Term) (values rates : List ℤ) → every is_sized ts ≡ true → Low values → Low rates → unsigned_abs (law_sum integers ts values rates) ≤ length ts * (1000000 * most)
+  pub law_size : (ts : List Term) (values rates : List ℤ) → list_all is_sized ts ≡ true → Low values → Low rates → unsigned_abs (law_sum integers ts values rates) ≤ length ts * (1000000 * most)
   law_size [] values rates few low_values low_rates = omega arith
   law_size (t ∷ ts) values rates few low_values low_rates =
-      let both = and_parts (is_sized t) (every is_sized ts) few in
+      let both = and_parts (is_sized t) (list_all is_sized ts) few in
       let x = read integers (of_order t.order values rates) t.variable in
       omega (
         arith,

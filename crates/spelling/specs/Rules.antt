@@ -1,9 +1,9 @@
 -- When a line is printed, and what is answered. It is refused if the buffer is shorter than the line;
 -- else the answer is how many bytes were written.
 use Rattle.std.specs.Prelude.{ℕ, List, [], ◌∷◌, length, Option, Result, nat_lt}
-use Rattle.netlist.specs.declared.refusals.Refusal.{Refusal}
-use Rattle.netlist.specs.declared.refusals.Refusal.TheVariants.{ShortBuffer}
-use Rattle.netlist.specs.Rules.{Tests, first_of, answer}
+use Rattle.draft.specs.declared.refusals.Refusal.{Refusal}
+use Rattle.draft.specs.declared.refusals.Refusal.TheVariants.{ShortBuffer}
+use Rattle.refusal.specs.Tests.{Tests, first_of, answer}
 
 abbrev pub table_text : List ℕ → List ℕ → Tests
 table_text buffer text =

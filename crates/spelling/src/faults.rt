@@ -7,7 +7,7 @@ ghost use Rattle.spelling.specs.Rules.{judge_text, answer_text};
 use crate::decimals::put_decimal;
 use crate::sinks::Sink;
 use crate::texts::{Text, print};
-use netlist::refusals::Refusal;
+use draft::refusals::Refusal;
 
 /// Where a fault is, from 1, and the three numbers by which a user knows it.
 #[derive(Clone, Copy, PartialEq, Eq, Debug)]

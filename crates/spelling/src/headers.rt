@@ -7,7 +7,7 @@ ghost use Rattle.spelling.specs.Rules.{judge_text, answer_text};
 use crate::decimals::put_decimal;
 use crate::sinks::Sink;
 use crate::texts::{Text, print};
-use netlist::refusals::Refusal;
+use draft::refusals::Refusal;
 
 #[derive(Clone, Copy)]
 struct Header {

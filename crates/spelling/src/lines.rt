@@ -7,7 +7,7 @@ ghost use Rattle.spelling.specs.Rules.{judge_text, answer_text};
 use crate::sinks::Sink;
 use crate::sums::put_sum;
 use crate::texts::{Text, print};
-use netlist::refusals::Refusal;
+use draft::refusals::Refusal;
 use netlist::terms::Term;
 
 #[derive(Clone, Copy)]

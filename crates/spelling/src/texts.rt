@@ -4,7 +4,7 @@ ghost use Rattle.netlist.specs.Buffers.{filled};
 ghost use Rattle.spelling.specs.Rules.{judge_text, answer_text};
 
 use crate::sinks::{Cursor, Measure, Sink};
-use netlist::refusals::Refusal;
+use draft::refusals::Refusal;
 
 // Not `Display`: no contract promises that `write!` is `Ok`, so an unlisted refusal could not be ruled out.
 pub(crate) trait Text {

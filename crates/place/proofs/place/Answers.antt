@@ -1,7 +1,7 @@
 use Rattle.std.proofs.Common.{ℕ, ◌+◌, [], ◌∷◌, Option, sym, ap, ◌∙◌}
 use Rattle.std.proofs.lemmas.Result.{err_from_is_err_and}
-use Rattle.netlist.specs.declared.refusals.Refusal.{Refusal}
-use Rattle.netlist.specs.Rules.{answer, after, first_of}
+use Rattle.draft.specs.declared.refusals.Refusal.{Refusal}
+use Rattle.refusal.specs.Tests.{answer, after, first_of}
 use Rattle.sheet.specs.Counting.{counts_of, room_tests}
 use Rattle.plan_judging.specs.Alone.{judge_laws}
 use Rattle.place.specs.Moved.{moved_laws}

@@ -2,7 +2,8 @@
 ghost use Rattle.std.specs.Prelude.{◌≡◌, ◌+◌, ◌<◌, ◌≤◌, [], ◌∷◌, ◌++◌, length, None};
 ghost use Rattle.netlist.specs.Domains.{domain_number};
 ghost use Rattle.netlist.specs.Netlist.{with_nodes, with_variables, with_rows};
-ghost use Rattle.netlist.specs.Rules.{first_of, table_row, room_law};
+ghost use Rattle.draft.specs.Rules.{table_row, room_law};
+ghost use Rattle.refusal.specs.Tests.{first_of};
 ghost use Rattle.netlist.specs.Sound.{Lawful};
 
 use crate::drafts::Draft;

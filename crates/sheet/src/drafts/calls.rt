@@ -3,12 +3,12 @@
 ghost use Rattle.std.specs.Prelude.{◌≡◌, IfOk};
 ghost use Rattle.netlist.specs.declared.rows.Row.TheVariants.{Branch, Earth};
 ghost use Rattle.netlist.specs.Netlist.{empty};
-ghost use Rattle.netlist.specs.Rules.{answer_node, after_node, answer_variables, after_variables, answer_row, after_row, answer_law, after_law};
+ghost use Rattle.draft.specs.Rules.{answer_node, after_node, answer_variables, after_variables, answer_row, after_row, answer_law, after_law};
 
 use crate::drafts::{Draft, MAX_NODES, MAX_ROWS, MAX_VARIABLES};
 use crate::laws::LawTable;
 use netlist::domains::Domain;
-use netlist::refusals::{Argument, Refusal, Table};
+use draft::refusals::{Argument, Refusal, Table};
 use netlist::rows::Row;
 use netlist::terms::RawTerm;
 use std::alloc::{AllocError, Global};
@@ -28,7 +28,7 @@ impl Draft {
 
     /// Draws a node of the domain of this number, and answers the node's number. It takes any number, since
     /// to refuse a wrong one is its part.
-    #[tactic(auto, using(netlist::proofs::Rooms::no_node_left, netlist::proofs::Rooms::node_left, crate::proofs::Sizes::node_count))]
+    #[tactic(auto, using(draft::proofs::Rooms::no_node_left, draft::proofs::Rooms::node_left, crate::proofs::Sizes::node_count))]
     pub fn node(&mut self, domain: u32) -> Result<usize, Refusal>
         ensures answer { result ≡ answer_node self.old domain }
         ensures netlist { self.new ≡ after_node self.old domain }

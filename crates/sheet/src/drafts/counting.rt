@@ -1,13 +1,13 @@
 //! How much a draft holds, and what it has room for.
 ghost use Rattle.std.specs.Prelude.{◌≡◌};
-ghost use Rattle.netlist.specs.Rules.{first_of};
+ghost use Rattle.refusal.specs.Tests.{first_of};
 ghost use Rattle.netlist.specs.Sound.{Sound};
-ghost use Rattle.judging.specs.Judging.{Tells};
+ghost use Rattle.refusal.specs.Answers.{Tells};
 ghost use Rattle.sheet.specs.Counting.{counts_of, room_tests};
 
 use crate::counts::Counts;
 use crate::drafts::{Draft, MAX_NODES, MAX_ROWS, MAX_VARIABLES};
-use netlist::refusals::{Refusal, Table};
+use draft::refusals::{Refusal, Table};
 
 impl Draft {
     /// How much has been drawn, with what every draft keeps to.

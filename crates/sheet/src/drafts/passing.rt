@@ -1,12 +1,12 @@
 //! Rows and laws are judged before they are added. A `LawTable` judges its own room.
-ghost use Rattle.netlist.specs.Rules.{taken_by};
+ghost use Rattle.netlist.specs.Rows.{taken_by};
 
 use crate::drafts::{Draft, MAX_ROWS};
-use judging::laws::accept_terms;
-use judging::rows;
-use judging::settings::Setting;
+use draft::laws::accept_terms;
+use draft::rows;
+use draft::settings::Setting;
 use netlist::domains::Domain;
-use netlist::refusals::{Refusal, Table};
+use draft::refusals::{Refusal, Table};
 use netlist::rows::Row;
 use netlist::terms::{MOST_TERMS, RawTerm, Term};
 
@@ -28,8 +28,9 @@ impl Setting for Draft {
 }
 
 impl Draft {
-    ghost use Rattle.netlist.specs.Rules.{judge_row, judge_law};
-    ghost use Rattle.judging.specs.Judging.{Accepts, BeginsWith, Tells};
+    ghost use Rattle.draft.specs.Rules.{judge_row, judge_law};
+    ghost use Rattle.draft.specs.Judging.{BeginsWith};
+    ghost use Rattle.refusal.specs.Answers.{Accepts, Tells};
 
     pub(super) fn judge_row(&self, row: Row) -> Result<(), Refusal>
         ensures { Tells (judge_row self.now row) result }

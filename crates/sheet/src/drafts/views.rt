@@ -1,6 +1,6 @@
 //! The laws of a sheet, as a reader sees them.
 ghost use Rattle.std.specs.Prelude.{◌≡◌, length};
-ghost use Rattle.netlist.specs.Pieces.{total};
+ghost use Rattle.std.specs.List.{sum};
 
 use netlist::terms::Term;
 
@@ -9,7 +9,7 @@ use netlist::terms::Term;
 pub struct LawView<'a> {
     pub lengths: &'a [usize],
     pub terms: &'a [Term],
-    ghost cut: { total lengths.now ≡ length terms.now },
+    ghost cut: { sum lengths.now ≡ length terms.now },
 }
 
 /// The laws that are left, each by its terms.

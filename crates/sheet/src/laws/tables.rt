@@ -1,15 +1,17 @@
 //! What is asked of the tables of laws, and how a law that has passed is stored.
 ghost use Rattle.std.specs.Prelude.{◌≡◌, ◌+◌, true, [], ◌∷◌, ◌++◌, length, IfOk, None};
 ghost use Rattle.netlist.specs.Netlist.{term_count};
-ghost use Rattle.netlist.specs.Rules.{first_of, room_law};
-ghost use Rattle.netlist.specs.Sound.{every, is_sized, is_term_count};
+ghost use Rattle.draft.specs.Rules.{room_law};
+ghost use Rattle.refusal.specs.Tests.{first_of};
+ghost use Rattle.netlist.specs.Sound.{is_sized, is_term_count};
+ghost use Rattle.std.specs.List.{list_all};
 ghost use Rattle.sheet.specs.Held.{laws_of};
-ghost use Rattle.judging.specs.Judging.{Tells};
+ghost use Rattle.refusal.specs.Answers.{Tells};
 ghost use Rattle.sheet.specs.Views.{laws_in};
 
 use crate::drafts::views::LawView;
 use crate::laws::{LawTable, MAX_LAWS, MAX_TERMS};
-use netlist::refusals::{Refusal, Table};
+use draft::refusals::{Refusal, Table};
 use netlist::terms::Term;
 use std::alloc::{AllocError, Global};
 
@@ -48,7 +50,7 @@ impl LawTable {
     }
 
     // Whether a law of so many terms finds room.
-    #[tactic(auto, using(netlist::proofs::Rooms::no_law_left, netlist::proofs::Rooms::no_term_left, netlist::proofs::Rooms::room_left, crate::proofs::Sizes::law_count, crate::proofs::Sizes::term_count_of))]
+    #[tactic(auto, using(draft::proofs::Rooms::no_law_left, draft::proofs::Rooms::no_term_left, draft::proofs::Rooms::room_left, crate::proofs::Sizes::law_count, crate::proofs::Sizes::term_count_of))]
     pub(crate) fn judge_room(&self, count: usize) -> Result<(), Refusal>
         ensures { Tells (first_of (room_law (laws_of self.now) count)) result }
     {
@@ -67,7 +69,7 @@ impl LawTable {
     pub(crate) fn add(&mut self, law: &[Term])
         requires room { first_of (room_law (laws_of self.old) (length law.now)) ≡ None }
         requires count { is_term_count (length law.now) ≡ true }
-        requires sized { every is_sized law.now ≡ true }
+        requires sized { list_all is_sized law.now ≡ true }
         ensures laws { laws_of self.new ≡ laws_of self.old ++ law.now ∷ [] }
         ensures terms { self.new.terms.items ≡ self.old.terms.items ++ law.now }
     {

@@ -1,9 +1,9 @@
 use Rattle.std.proofs.Common.{◌≡◌, ◌≤◌, ◌-◌, length, ap, ◌∙◌, Option, Err, sym, refl, arith, rules}
 use Rattle.std.proofs.lemmas.Bool.{ltb-false}
-use Rattle.netlist.specs.declared.refusals.Refusal.{Refusal}
-use Rattle.netlist.specs.declared.refusals.Refusal.TheVariants.{NoEquation}
+use Rattle.draft.specs.declared.refusals.Refusal.{Refusal}
+use Rattle.draft.specs.declared.refusals.Refusal.TheVariants.{NoEquation}
 use Rattle.netlist.specs.Buffers.{filled}
-use Rattle.netlist.specs.Rules.{answer}
+use Rattle.refusal.specs.Tests.{answer}
 use Rattle.equation.specs.Equations.{row_equation}
 use Rattle.equation.specs.Printing.{line_of}
 use Rattle.equation.proofs.Counting.{length_listed}

@@ -3,10 +3,11 @@ use Rattle.std.specs.List.{slice_get}
 use Rattle.std.specs.Result.{is_ok}
 use Rattle.std.proofs.lemmas.List.{length-map, take_all}
 use Rattle.std.proofs.lemmas.Option.{slice_get-get_or}
-use Rattle.netlist.specs.declared.refusals.Refusal.{Refusal}
+use Rattle.draft.specs.declared.refusals.Refusal.{Refusal}
 use Rattle.netlist.specs.declared.terms.RawTerm.{RawTerm}
 use Rattle.netlist.specs.Netlist.{with_laws}
-use Rattle.netlist.specs.Rules.{answer, after, judge_law}
+use Rattle.draft.specs.Rules.{judge_law}
+use Rattle.refusal.specs.Tests.{answer, after}
 use Rattle.assembly.specs.Meaning.{laws_of, terms_of}
 use Rattle.plan_judging.specs.Terms.{counted_on, law_from}
 use Rattle.plan_judging.proofs.Gathered.{few}

@@ -1,11 +1,12 @@
 use Rattle.std.proofs.Common.{◌≡◌, ℕ, ◌<◌, [], ◌∷◌, map, take, length, Some, None, Option, sym, ap, ◌∙◌, arith}
 use Rattle.std.specs.List.{slice_get}
 use Rattle.std.proofs.lemmas.List.{length-append, length-map, length-take-le}
-use Rattle.netlist.specs.declared.refusals.Refusal.{Refusal}
+use Rattle.draft.specs.declared.refusals.Refusal.{Refusal}
 use Rattle.netlist.specs.Domains.{domain_number}
 use Rattle.netlist.specs.Netlist.{Netlist, with_nodes}
-use Rattle.netlist.specs.Rules.{after, judge_node}
-use Rattle.netlist.proofs.Rooms.{node_left}
+use Rattle.draft.specs.Rules.{judge_node}
+use Rattle.refusal.specs.Tests.{after}
+use Rattle.draft.proofs.Rooms.{node_left}
 use Rattle.place.specs.Parts.{plan_of}
 use Rattle.place.proofs.Drawn.{node_more}
 use Rattle.place.proofs.Plans.{inner_at}

@@ -1,9 +1,10 @@
 use Rattle.std.proofs.Common.{◌≡◌, [], ◌∷◌, length, Some, Option, ap, ◌∙◌, arith}
 use Rattle.std.specs.List.{slice_get}
 use Rattle.std.specs.Result.{is_ok}
-use Rattle.netlist.specs.declared.refusals.Refusal.{Refusal}
+use Rattle.draft.specs.declared.refusals.Refusal.{Refusal}
 use Rattle.netlist.specs.Netlist.{with_rows}
-use Rattle.netlist.specs.Rules.{answer, after, judge_row}
+use Rattle.draft.specs.Rules.{judge_row}
+use Rattle.refusal.specs.Tests.{answer, after}
 use Rattle.assembly.specs.Meaning.{rows_of}
 use Rattle.place.specs.Seats.{seated_row}
 use Rattle.place.proofs.Drawn.{row_more, next_row}

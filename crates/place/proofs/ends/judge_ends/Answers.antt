@@ -1,9 +1,10 @@
 use Rattle.std.proofs.Common.{◌≡◌, ℕ, Some, sym, ap, ◌∙◌}
 use Rattle.std.specs.List.{slice_get}
 use Rattle.std.proofs.lemmas.Result.{err_from_is_err_and}
-use Rattle.netlist.specs.declared.refusals.Argument.TheVariants.{End}
-use Rattle.netlist.specs.Rules.{first_of, domain_of}
-use Rattle.netlist.proofs.Tables.{passed_over, stopped_at}
+use Rattle.draft.specs.declared.refusals.Argument.TheVariants.{End}
+use Rattle.draft.specs.Rules.{domain_of}
+use Rattle.refusal.specs.Tests.{first_of}
+use Rattle.refusal.proofs.Tables.{passed_over, stopped_at}
 use Rattle.assembly.specs.Meaning.{domains_of}
 use Rattle.place.specs.Parts.{domain_tests}
 use Rattle.place.proofs.Plans.{ends_left}

@@ -1,9 +1,10 @@
 use Rattle.std.proofs.Common.{◌≡◌, ℕ, List, length, Some, sym, ap, ◌∙◌, arith}
 use Rattle.std.specs.List.{slice_get}
 use Rattle.std.proofs.lemmas.Option.{slice_get-get_or}
-use Rattle.netlist.specs.declared.refusals.Refusal.TheVariants.{PlanLaw}
+use Rattle.draft.specs.declared.refusals.Refusal.TheVariants.{PlanLaw}
 use Rattle.netlist.specs.declared.terms.RawTerm.{RawTerm}
-use Rattle.netlist.specs.Rules.{first_of, table_law}
+use Rattle.draft.specs.Rules.{table_law}
+use Rattle.refusal.specs.Tests.{first_of}
 use Rattle.assembly.specs.Meaning.{laws_of, terms_of}
 use Rattle.plan_judging.proofs.Gathered.{count_next, few, gathered_law}
 use Rattle.plan_judging.proofs.Turns.{law_passes, law_stops}

@@ -1,13 +1,14 @@
 use Rattle.std.proofs.Common.{◌≡◌, ℕ, ◌+◌, map, take, length, [], None, Some, sym, subst, ap, ◌∙◌, arith, List}
 use Rattle.std.specs.List.{slice_get}
 use Rattle.std.proofs.lemmas.List.{length-set}
-use Rattle.netlist.specs.declared.refusals.Refusal.TheVariants.{PlanRow}
+use Rattle.draft.specs.declared.refusals.Refusal.TheVariants.{PlanRow}
 use Rattle.netlist.specs.declared.rows.Row.{Row}
 use Rattle.netlist.specs.Domains.{domain_number}
 use Rattle.netlist.specs.Flags.{Marked, raised, flag_up}
 use Rattle.netlist.specs.Netlist.{Netlist}
-use Rattle.netlist.specs.Rules.{first_of, row_tests, table_row}
-use Rattle.netlist.proofs.Tables.{row_fresh}
+use Rattle.draft.specs.Rules.{row_tests, table_row}
+use Rattle.refusal.specs.Tests.{first_of}
+use Rattle.draft.proofs.Tables.{row_fresh}
 use Rattle.netlist.proofs.Taking.{marked_row}
 use Rattle.assembly.specs.Meaning.{domains_of, rows_of}
 use Rattle.plan_judging.specs.Alone.{judge_rows}

@@ -1,8 +1,9 @@
 use Rattle.std.proofs.Common.{ℕ, length, sym, ap, ◌∙◌}
 use Rattle.std.proofs.lemmas.Result.{err_from_is_err_and}
 use Rattle.netlist.specs.Netlist.{Netlist}
-use Rattle.netlist.specs.Rules.{first_of, judge_law, table_law, room_law}
-use Rattle.netlist.proofs.Tables.{stopped_at, passed_over}
+use Rattle.draft.specs.Rules.{judge_law, table_law, room_law}
+use Rattle.refusal.specs.Tests.{first_of}
+use Rattle.refusal.proofs.Tables.{stopped_at, passed_over}
 use Rattle.sheet.specs.Held.{netlist_of}
 use Rattle.sheet.proofs.drafts.Draft.accept_law.Goals as goal
 

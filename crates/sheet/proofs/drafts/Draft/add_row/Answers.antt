@@ -2,7 +2,7 @@ use Rattle.std.proofs.Common.{map, arith}
 use Rattle.netlist.specs.Domains.{domain_number}
 use Rattle.netlist.specs.Sound.{joins}
 use Rattle.netlist.proofs.Every.{every_push}
-use Rattle.netlist.proofs.Tables.{row_fresh}
+use Rattle.draft.proofs.Tables.{row_fresh}
 use Rattle.netlist.proofs.Taking.{marked_row}
 use Rattle.sheet.specs.Held.{netlist_of}
 use Rattle.sheet.proofs.drafts.Draft.add_row.Goals as goal

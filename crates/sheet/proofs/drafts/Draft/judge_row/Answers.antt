@@ -1,6 +1,6 @@
 use Rattle.std.proofs.lemmas.Result.{err_from_is_err_and}
-use Rattle.netlist.specs.Rules.{table_row, room_row}
-use Rattle.netlist.proofs.Tables.{stopped_at}
+use Rattle.draft.specs.Rules.{table_row, room_row}
+use Rattle.refusal.proofs.Tables.{stopped_at}
 use Rattle.sheet.proofs.drafts.Draft.judge_row.Goals as goal
 
 pub returns-in_err-judge_row : goal.returns-in_err-judge_row

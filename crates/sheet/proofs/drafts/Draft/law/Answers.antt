@@ -2,9 +2,11 @@ use Rattle.std.proofs.Common.{◌≡◌, ℕ, List, None, true, length, map, sym
 use Rattle.std.proofs.lemmas.List.{length-map}
 use Rattle.netlist.specs.declared.terms.RawTerm.{RawTerm}
 use Rattle.netlist.specs.Netlist.{term_of}
-use Rattle.netlist.specs.Rules.{first_of, table_law, room_law}
+use Rattle.draft.specs.Rules.{table_law, room_law}
+use Rattle.refusal.specs.Tests.{first_of}
 use Rattle.netlist.specs.Sound.{Lawful, is_term_count}
-use Rattle.netlist.proofs.Tables.{parts, law_accepted}
+use Rattle.draft.proofs.Tables.{law_accepted}
+use Rattle.refusal.proofs.Tables.{parts}
 use Rattle.sheet.proofs.drafts.Draft.law.Goals as goal
 
 -- what passes the table of a law keeps to a law's bounds

@@ -1,9 +1,10 @@
 use Rattle.std.proofs.Common.{ap, ◌∙◌, arith, length}
-use Rattle.netlist.specs.Pieces.{total, pieces}
+use Rattle.netlist.specs.Pieces.{pieces}
+use Rattle.std.specs.List.{sum}
 use Rattle.netlist.specs.Sound.{is_sized, is_term_count}
-use Rattle.netlist.proofs.Cuts.{total_push, pieces_push}
+use Rattle.netlist.proofs.Cuts.{pieces_push, sum_push}
 use Rattle.netlist.proofs.Every.{every_push, every_append}
-use Rattle.netlist.proofs.Rooms.{laws_left, terms_left}
+use Rattle.draft.proofs.Rooms.{laws_left, terms_left}
 use Rattle.sheet.specs.Held.{laws_of}
 use Rattle.sheet.proofs.Sizes.{table_cut, law_count, term_count_of}
 use Rattle.sheet.proofs.laws.LawTable.add.Goals as goal
@@ -31,7 +32,7 @@ invariant_of-self c =
     record {
       laws_fit = (omega arith, omega arith);
       terms_fit = (omega arith, omega arith);
-      cut = ap total c.push_reserved.ensures.items ∙ total_push t.lengths.items n ∙ omega arith;
+      cut = ap sum c.push_reserved.ensures.items ∙ sum_push t.lengths.items n ∙ omega arith;
       counted = simp c.push_reserved.ensures.items (every_push is_term_count t.lengths.items n t.counted c.requires.count);
       sized = simp items (every_append is_sized t.terms.items c.args.law.now t.sized c.requires.sized);
     }
