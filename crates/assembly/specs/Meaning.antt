@@ -3,7 +3,7 @@ use Rattle.std.specs.Prelude.{◌≡◌, ℕ, ◌≤◌, Bool, true, false, ◌&
 use Rattle.netlist.specs.declared.domains.Domain.{Domain}
 use Rattle.netlist.specs.Sound.{is_term_count}
 use Rattle.std.specs.List.{list_all}
-use Rattle.assembly.specs.Plans.{PlanRow, PlanTerm}
+use Rattle.assembly.specs.Plans.{PlanRow, PlanTerm, most_of_plan}
 use Rattle.assembly.specs.declared.plans.Size.{Size}
 
 -- The domains of the ends and of the inner nodes, the number of variables, the rows and the laws. The
@@ -22,16 +22,18 @@ pub data Meaning : Type 0 where
 -- the bounds of a plan
 pub record Bounded (p : Plan) : Type 0 where
   pub two_ends : length p.ends ≡ 2
-  pub few_inner : length p.inner ≤ 6000
-  pub few_variables : p.variables ≤ 6000
-  pub few_rows : length p.rows ≤ 6000
-  pub few_laws : length p.laws ≤ 6000
+  pub few_inner : length p.inner ≤ most_of_plan
+  pub few_variables : p.variables ≤ most_of_plan
+  pub few_rows : length p.rows ≤ most_of_plan
+  pub few_laws : length p.laws ≤ most_of_plan
   -- each law has one to eight terms
   pub law_lengths : list_all is_term_count (map length p.laws) ≡ true
 
--- No count is above 6,000.
+-- no count is above the limit
 abbrev pub is_small : Size → Bool
-is_small n = nat_le n.inner 6000 && (nat_le n.variables 6000 && (nat_le n.rows 6000 && nat_le n.laws 6000))
+is_small n =
+    nat_le n.inner most_of_plan
+    && (nat_le n.variables most_of_plan && (nat_le n.rows most_of_plan && nat_le n.laws most_of_plan))
 
 abbrev pub Proper : Meaning → Type 0
 Proper void = Unit {0}

@@ -4,6 +4,7 @@ use Rattle.std.specs.List.{slice_get}
 use Rattle.std.proofs.lemmas.Bool.{not-true, ltb-false, or_parts, cases_lt}
 use Rattle.std.proofs.lemmas.List.{take_all, length-map, get_or_past}
 use Rattle.netlist.specs.declared.terms.RawTerm.{RawTerm}
+use Rattle.netlist.specs.Limits.{most_terms_of_law}
 use Rattle.netlist.specs.Netlist.{term_count}
 use Rattle.netlist.specs.Sound.{is_term_count}
 use Rattle.netlist.proofs.Every.{every_at, every_map}
@@ -27,10 +28,10 @@ law_from_start (t ∷ law) =
     λ i. record { coefficient = t.coefficient; order = t.order; variable = same i } ∷ law_from_start law i
 
 -- a law of a plan has no more than eight terms
-pub few_terms : (n : ℕ) → is_term_count n ≡ true → n ≤ 8
+pub few_terms : (n : ℕ) → is_term_count n ≡ true → n ≤ most_terms_of_law
 few_terms n h = ltb-false 8 n (or_parts _ _ (not-true _ h)).1
 
-pub few : (m : Meaning) (k : ℕ) → Proper m → length (terms_of m k) ≤ 8
+pub few : (m : Meaning) (k : ℕ) → Proper m → length (terms_of m k) ≤ most_terms_of_law
 few void k proper = omega arith
 few (plan p) k proper =
     ⊎_elim
@@ -39,7 +40,7 @@ few (plan p) k proper =
     (cases_lt k (length p.laws))
 
 -- so the first eight terms of a law of a plan are the law
-pub gathered_law : (m : Meaning) (k : ℕ) → Proper m → take 8 (law_from 0 (terms_of m k)) ≡ terms_of m k
+pub gathered_law : (m : Meaning) (k : ℕ) → Proper m → take most_terms_of_law (law_from 0 (terms_of m k)) ≡ terms_of m k
 gathered_law m k proper =
     let law = terms_of m k in
     take_all 8 (law_from 0 law) (omega (arith, length-map law (counted_on 0), few m k proper)) ∙ law_from_start law

@@ -4,14 +4,13 @@ use Rattle.std.specs.List.{slice_get}
 use Rattle.std.specs.Option.{option_map, option_or}
 use Rattle.std.proofs.lemmas.List.{at_drop_more, take_more}
 use Rattle.std.proofs.lemmas.Option.{slice_get_within, get_or_from_slice_get}
-use Rattle.draft.specs.declared.refusals.Refusal.{Refusal}
-use Rattle.draft.specs.declared.refusals.Refusal.TheVariants.{PlanRow, PlanLaw}
+use Rattle.draft.specs.declared.refusals.DraftRefusal.{DraftRefusal}
 use Rattle.netlist.specs.declared.rows.Row.{Row}
 use Rattle.netlist.specs.declared.terms.RawTerm.{RawTerm}
 use Rattle.netlist.specs.Netlist.{Netlist}
-use Rattle.draft.specs.Refusals.{number}
 use Rattle.draft.specs.Rules.{table_row, table_law}
 use Rattle.refusal.specs.Tests.{first_of}
+use Rattle.plan_judging.specs.declared.refusals.PlaceRefusal.TheVariants.{Row as RowRefused, Law as LawRefused}
 use Rattle.plan_judging.specs.Alone.{judge_rows, judge_laws}
 
 -- what stands at a place of a list
@@ -36,13 +35,13 @@ module _ (b : Netlist) (rows : List (Row ℕ)) (k : ℕ) (row : Row ℕ) (at : s
       let rest = judge_rows (with_them b (take k rows ++ row ∷ [])) (k + 1) (drop (k + 1) rows) in
       sym
       (turn
-      ∙ ap (λ (o : Option Refusal). option_or (option_map (λ why. PlanRow k (number why)) o) rest) h
+      ∙ ap (λ (o : Option DraftRefusal). option_or (option_map (λ why. RowRefused k why) o) rest) h
       ∙ ap (λ (drawn : List (Row ℕ)). judge_rows (with_them b drawn) (k + 1) (drop (k + 1) rows)) (sym (take_place rows k row at)))
 
-  pub row_stops : (why : Refusal) → first_of (table_row (with_them b (take k rows)) row) ≡ Some why → judge_rows (with_them b (take k rows)) k (drop k rows) ≡ Some (PlanRow k (number why))
+  pub row_stops : (why : DraftRefusal) → first_of (table_row (with_them b (take k rows)) row) ≡ Some why → judge_rows (with_them b (take k rows)) k (drop k rows) ≡ Some (RowRefused k why)
   row_stops why h =
       let rest = judge_rows (with_them b (take k rows ++ row ∷ [])) (k + 1) (drop (k + 1) rows) in
-      turn ∙ ap (λ (o : Option Refusal). option_or (option_map (λ why. PlanRow k (number why)) o) rest) h
+      turn ∙ ap (λ (o : Option DraftRefusal). option_or (option_map (λ why. RowRefused k why) o) rest) h
 
 module _ (n : ℕ) (laws : List (List (RawTerm ℕ))) (k : ℕ) (law : List (RawTerm ℕ)) (at : slice_get laws k ≡ Some law) where
   law_turn : judge_laws n k (drop k laws) ≡ judge_laws n k (law ∷ drop (k + 1) laws)
@@ -51,9 +50,9 @@ module _ (n : ℕ) (laws : List (List (RawTerm ℕ))) (k : ℕ) (law : List (Raw
   pub law_passes : first_of (table_law n law) ≡ None → judge_laws n (k + 1) (drop (k + 1) laws) ≡ judge_laws n k (drop k laws)
   law_passes h =
       let rest = judge_laws n (k + 1) (drop (k + 1) laws) in
-      sym (law_turn ∙ ap (λ (o : Option Refusal). option_or (option_map (λ why. PlanLaw k (number why)) o) rest) h)
+      sym (law_turn ∙ ap (λ (o : Option DraftRefusal). option_or (option_map (λ why. LawRefused k why) o) rest) h)
 
-  pub law_stops : (why : Refusal) → first_of (table_law n law) ≡ Some why → judge_laws n k (drop k laws) ≡ Some (PlanLaw k (number why))
+  pub law_stops : (why : DraftRefusal) → first_of (table_law n law) ≡ Some why → judge_laws n k (drop k laws) ≡ Some (LawRefused k why)
   law_stops why h =
       let rest = judge_laws n (k + 1) (drop (k + 1) laws) in
-      law_turn ∙ ap (λ (o : Option Refusal). option_or (option_map (λ why. PlanLaw k (number why)) o) rest) h
+      law_turn ∙ ap (λ (o : Option DraftRefusal). option_or (option_map (λ why. LawRefused k why) o) rest) h

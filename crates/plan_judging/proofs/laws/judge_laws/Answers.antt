@@ -1,7 +1,6 @@
 use Rattle.std.proofs.Common.{◌≡◌, ℕ, List, length, Some, sym, ap, ◌∙◌, arith}
 use Rattle.std.specs.List.{slice_get}
 use Rattle.std.proofs.lemmas.Option.{slice_get-get_or}
-use Rattle.draft.specs.declared.refusals.Refusal.TheVariants.{PlanLaw}
 use Rattle.netlist.specs.declared.terms.RawTerm.{RawTerm}
 use Rattle.draft.specs.Rules.{table_law}
 use Rattle.refusal.specs.Tests.{first_of}
@@ -19,8 +18,7 @@ returns-in-Err g c =
     let at : slice_get laws k ≡ Some law = slice_get-get_or laws k _ (omega arith) in
     let all = c.as_slice.ensures ∙ c.of-law.ensures ∙ gathered_law m k c.requires.proper in
     sym c.loop-k.invariant.judged
-    ∙ law_stops c.args.variables laws k law at c.in-Err.why (ap (λ (ts : List (RawTerm ℕ)). first_of (table_law c.args.variables ts)) (sym all) ∙ c.in-Err.ensures)
-    ∙ ap (λ (n : ℕ). Some (PlanLaw k n)) (sym c.number.ensures)
+    ∙ law_stops c.args.variables laws k law at c.in-Err.inner (ap (λ (ts : List (RawTerm ℕ)). first_of (table_law c.args.variables ts)) (sym all) ∙ c.in-Err.ensures)
 
 pub loop-k-preserved : goal.loop-k-preserved
 loop-k-preserved g c =

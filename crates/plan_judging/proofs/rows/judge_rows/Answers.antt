@@ -1,7 +1,6 @@
 use Rattle.std.proofs.Common.{◌≡◌, ℕ, ◌+◌, map, take, length, [], None, Some, sym, subst, ap, ◌∙◌, arith, List}
 use Rattle.std.specs.List.{slice_get}
 use Rattle.std.proofs.lemmas.List.{length-set}
-use Rattle.draft.specs.declared.refusals.Refusal.TheVariants.{PlanRow}
 use Rattle.netlist.specs.declared.rows.Row.{Row}
 use Rattle.netlist.specs.Domains.{domain_number}
 use Rattle.netlist.specs.Flags.{Marked, raised, flag_up}
@@ -25,14 +24,13 @@ returns-in-Err g c =
     let k = c.loop-k.k in
     let row = c.from-row.result in
     let at : slice_get (rows_of m) k ≡ Some row = cc in
-    let read : first_of (table_row (with_them bare (take k (rows_of m))) row) ≡ Some c.in-Err.why =
+    let read : first_of (table_row (with_them bare (take k (rows_of m))) row) ≡ Some c.in-Err.inner =
     by_flags ds (length c.fill.new.self) c.loop-k.taken (take k (rows_of m)) row inv.marked
     ∙ ap (λ (n : ℕ). first_of (row_tests ds n (flag_up c.loop-k.taken) row)) (sym inv.long)
     ∙ c.in-Err.ensures in
     ap (λ (n : ℕ). judge_rows (record { domains = ds; variables = n; rows = []; laws = [] }) 0 (rows_of m)) (sym c.fill.ensures.len)
     ∙ sym inv.judged
-    ∙ row_stops bare (rows_of m) k row at c.in-Err.why read
-    ∙ ap (λ (n : ℕ). Some (PlanRow k n)) (sym c.number.ensures)
+    ∙ row_stops bare (rows_of m) k row at c.in-Err.inner read
 
 pub loop-k-preserved : goal.loop-k-preserved
 loop-k-preserved g c =
