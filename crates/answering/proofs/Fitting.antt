@@ -15,7 +15,7 @@ use Rattle.text.specs.Newlines.{lines_of}
 use Rattle.readings_text.specs.declared.lines.Reading.{Reading}
 use Rattle.readings_text.specs.declared.faults.ReadingsFault.{ReadingsFault}
 use Rattle.readings_text.specs.declared.faults.ReadingsFault.TheVariants.{TooFew}
-use Rattle.readings_text.specs.Readings.{Answer, Gives, ReadsReadings}
+use Rattle.readings_text.specs.Readings.{Gives, ReadsReadings, ReadingsAnswer}
 use Rattle.checking.specs.declared.verdicts.Verdict.{Verdict}
 use Rattle.checking.specs.Checked.{judge_check, Checked}
 
@@ -32,7 +32,7 @@ is_checked 𝓖 b values rates old new (Ok verdict) fits h = refl
 is_checked 𝓖 b values rates old new (Err why) fits h = let z : ◌≡◌ {A = ℕ} 0 1 = cc in absurd (omega arith)
 
 -- lines that are read to their end give so many readings as are wanted
-enough : (t : Bool) (fault : ReadingsFault) → ◌≡◌ {A = Answer} (Ok tt) (cond t (Ok tt) (Err fault)) → t ≡ true
+enough : (t : Bool) (fault : ReadingsFault) → ◌≡◌ {A = ReadingsAnswer} (Ok tt) (cond t (Ok tt) (Err fault)) → t ≡ true
 enough true fault h = refl
 enough false fault h = let z : ◌≡◌ {A = ℕ} 0 1 = cc in absurd (omega arith)
 

@@ -3,36 +3,36 @@ use Rattle.std.proofs.Common.{◌≡◌, ℕ, zero, suc, ◌+◌, ◌-◌, ◌<�
 use Rattle.std.proofs.lemmas.List.{set_at}
 use Rattle.netlist.specs.declared.terms.RawTerm.{RawTerm}
 use Rattle.text.specs.declared.kinds.Kind.TheVariants.{Number, Coefficient}
-use Rattle.text.specs.Grammar.{Bytes, Text, Matches, repeated, row}
+use Rattle.text.specs.Grammar.{Bytes, Text, Matches, kinds_repeated, spaced, term_kinds}
 use Rattle.commands.specs.declared.terms.Terms.{Terms}
-use Rattle.commands.specs.Spelling.{term_of, terms_of, no_term, slotted}
-use Rattle.commands.specs.Steps.{ReadsLaw, term_kinds}
+use Rattle.commands.specs.Spelling.{no_term, slotted, spelled_term, spelled_terms}
+use Rattle.commands.specs.Steps.{ReadsLaw}
 
 -- m groups of fields are left at t, after those of the terms `done`
 pub record Left (gs : List Bytes) (n : ℕ) (done : List (RawTerm ℕ)) (t : Bytes) : Type 0 where
   pub groups : ℕ
   pub fields : List Bytes
   pub count : groups + length done ≡ n
-  pub here : t ≡ row fields
-  pub kinds : Matches (repeated groups term_kinds) fields
-  pub terms : terms_of gs ≡ done ++ terms_of fields
+  pub here : t ≡ spaced fields
+  pub kinds : Matches (kinds_repeated groups term_kinds) fields
+  pub terms : spelled_terms gs ≡ done ++ spelled_terms fields
 
 -- of the rest s, these terms are in their slots, and t is left
 pub record Filled (s : Bytes) (terms : Terms) (t : Bytes) : Type 0 where
   pub done : List (RawTerm ℕ)
   pub size : length done ≡ terms.count
   pub stored : terms.slots ≡ done ++ replicate (8 - terms.count) no_term
-  pub left : (n : ℕ) (gs : List Bytes) → n ≤ 8 → s ≡ row gs → Matches (repeated n term_kinds) gs → Left gs n done t
+  pub left : (n : ℕ) (gs : List Bytes) → n ≤ 8 → s ≡ spaced gs → Matches (kinds_repeated n term_kinds) gs → Left gs n done t
 
 -- what a turn reads
 abbrev pub Turn : Bytes → RawTerm ℕ → Bytes → Type 0
 Turn t v u =
-    (a b c : Bytes) (gs : List Bytes) → t ≡ row (a ∷ b ∷ c ∷ gs) → Text Coefficient a → Text Number b → Text Number c → (v ≡ term_of a b c) × (u ≡ row gs)
+    (a b c : Bytes) (gs : List Bytes) → t ≡ spaced (a ∷ b ∷ c ∷ gs) → Text Coefficient a → Text Number b → Text Number c → (v ≡ spelled_term a b c) × (u ≡ spaced gs)
 
 one_more : (gs : List Bytes) (n : ℕ) (done : List (RawTerm ℕ)) (t u : Bytes) (v : RawTerm ℕ) → Turn t v u → (t ≡ [] → ⊥) → Left gs n done t → Left gs n (done ++ v ∷ []) u
 one_more gs n done t u v turn some l = go l.groups l.fields l.count l.here l.kinds l.terms
   where
-    go : (m : ℕ) (fs : List Bytes) → m + length done ≡ n → t ≡ row fs → Matches (repeated m term_kinds) fs → terms_of gs ≡ done ++ terms_of fs → Left gs n (done ++ v ∷ []) u
+    go : (m : ℕ) (fs : List Bytes) → m + length done ≡ n → t ≡ spaced fs → Matches (kinds_repeated m term_kinds) fs → spelled_terms gs ≡ done ++ spelled_terms fs → Left gs n (done ++ v ∷ []) u
     go zero [] count here kinds terms = absurd (some here)
     go zero (a ∷ fs) count here kinds terms = absurd kinds
     go (suc m) [] count here kinds terms = absurd kinds
@@ -47,7 +47,7 @@ one_more gs n done t u v turn some l = go l.groups l.fields l.count l.here l.kin
           count = omega arith;
           here = got.1;
           kinds = kinds.1.1.1;
-          terms = terms ∙ ap (λ (x : RawTerm ℕ). done ++ x ∷ terms_of fs) (sym got.0) ∙ sym (append_assoc done (v ∷ []) (terms_of fs));
+          terms = terms ∙ ap (λ (x : RawTerm ℕ). done ++ x ∷ spelled_terms fs) (sym got.0) ∙ sym (append_assoc done (v ∷ []) (spelled_terms fs));
         }
 
 pub filled_more : (s : Bytes) (terms more : Terms) (t : Bytes) (v : RawTerm ℕ) (u : Bytes) → terms.count < 8 → (more.slots ≡ set terms.slots terms.count v) × (more.count ≡ terms.count + 1) → Turn t v u → (t ≡ [] → ⊥) → Filled s terms t → Filled s more u
@@ -78,16 +78,16 @@ slots_are terms done ts size stored same =
     both
 
 -- no field is left where all groups are read
-all_read : (fs : List Bytes) (done : List (RawTerm ℕ)) → Matches (repeated 0 term_kinds) fs → done ++ terms_of fs ≡ done
+all_read : (fs : List Bytes) (done : List (RawTerm ℕ)) → Matches (kinds_repeated 0 term_kinds) fs → done ++ spelled_terms fs ≡ done
 all_read [] done h = append-nil done
 all_read (f ∷ fs) done h = absurd h
 
 module _ (s : Bytes) (terms : Terms) (t : Bytes) (f : Filled s terms t) where
   -- the reading stops where no term is left
-  pub filled_end : ((a b c : Bytes) (gs : List Bytes) → t ≡ row (a ∷ b ∷ c ∷ gs) → Text Coefficient a → Text Number b → Text Number c → ⊥) → ReadsLaw s terms
-  filled_end none n gs few here kinds = let l = f.left n gs few here kinds in slots_are terms f.done (terms_of gs) f.size f.stored (go l.groups l.fields l.here l.kinds l.terms)
+  pub filled_end : ((a b c : Bytes) (gs : List Bytes) → t ≡ spaced (a ∷ b ∷ c ∷ gs) → Text Coefficient a → Text Number b → Text Number c → ⊥) → ReadsLaw s terms
+  filled_end none n gs few here kinds = let l = f.left n gs few here kinds in slots_are terms f.done (spelled_terms gs) f.size f.stored (go l.groups l.fields l.here l.kinds l.terms)
     where
-      go : (m : ℕ) (fs : List Bytes) → t ≡ row fs → Matches (repeated m term_kinds) fs → terms_of gs ≡ f.done ++ terms_of fs → terms_of gs ≡ f.done
+      go : (m : ℕ) (fs : List Bytes) → t ≡ spaced fs → Matches (kinds_repeated m term_kinds) fs → spelled_terms gs ≡ f.done ++ spelled_terms fs → spelled_terms gs ≡ f.done
       go zero fs at h e = e ∙ all_read fs f.done h
       go (suc m) [] at h e = absurd h
       go (suc m) (a ∷ []) at h e = absurd h.1
@@ -96,8 +96,8 @@ module _ (s : Bytes) (terms : Terms) (t : Bytes) (f : Filled s terms t) where
 
   -- or where the slots are full
   pub filled_full : 8 ≤ terms.count → ReadsLaw s terms
-  filled_full full n gs few here kinds = let l = f.left n gs few here kinds in slots_are terms f.done (terms_of gs) f.size f.stored (go l.groups l.fields l.count l.kinds l.terms)
+  filled_full full n gs few here kinds = let l = f.left n gs few here kinds in slots_are terms f.done (spelled_terms gs) f.size f.stored (go l.groups l.fields l.count l.kinds l.terms)
     where
-      go : (m : ℕ) (fs : List Bytes) → m + length f.done ≡ n → Matches (repeated m term_kinds) fs → terms_of gs ≡ f.done ++ terms_of fs → terms_of gs ≡ f.done
+      go : (m : ℕ) (fs : List Bytes) → m + length f.done ≡ n → Matches (kinds_repeated m term_kinds) fs → spelled_terms gs ≡ f.done ++ spelled_terms fs → spelled_terms gs ≡ f.done
       go zero fs count h e = e ∙ all_read fs f.done h
       go (suc m) fs count h e = let size = f.size in absurd (omega arith)

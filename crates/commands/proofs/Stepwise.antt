@@ -8,7 +8,7 @@ use Rattle.text.specs.declared.line.Field.{Field}
 use Rattle.text.specs.declared.line.Fields.{Fields}
 use Rattle.text.specs.declared.line.Field.TheVariants.{Unsigned, Negative}
 use Rattle.text.specs.Grammar.{Bytes, Plain, Text}
-use Rattle.text.specs.Decimal.{decimal, signed}
+use Rattle.text.specs.Decimal.{value_of_digits, value_of_signed}
 use Rattle.text.specs.Reading.{digits_of, value_of, Spells, FieldStep, rest_of}
 use Rattle.text.proofs.Steps.{tail_same}
 use Rattle.text.proofs.Words.{text_unbroken}
@@ -22,16 +22,16 @@ number_digits (Negative d n k) g s p = absurd (minus (subst Plain s p))
     minus : Plain (45 ∷ d.now) → ⊥
     minus q = let h = q.digits.0 in omega arith
 
-unsigned : (g : Bytes) → Plain g → signed g ≡ pos (decimal g)
+unsigned : (g : Bytes) → Plain g → value_of_signed g ≡ pos (value_of_digits g)
 unsigned [] p = let h = p.some in absurd (omega arith)
 unsigned (b ∷ bs) p =
     let h = p.digits.0 in
-    cond-false (eqb b 45) (neg_ℤ (pos (decimal bs))) (pos (decimal (b ∷ bs))) (ne_eqb b 45 (λ e. omega arith))
+    cond-false (eqb b 45) (neg_ℤ (pos (value_of_digits bs))) (pos (value_of_digits (b ∷ bs))) (ne_eqb b 45 (λ e. omega arith))
 
-pub coefficient_value : (f : Field) (g : Bytes) → Spells f g → Text Coefficient g → (length (digits_of f) ≤ 7) × (value_of f ≡ signed g)
+pub coefficient_value : (f : Field) (g : Bytes) → Spells f g → Text Coefficient g → (length (digits_of f) ≤ 7) × (value_of f ≡ value_of_signed g)
 coefficient_value (Unsigned d n k) g s t =
     ⊎_elim
-    (λ p. let l = p.short in (subst (λ (x : Bytes). length x ≤ 7) s.0 l, ap (λ (x : Bytes). pos (decimal x)) (sym s.0) ∙ sym (unsigned g p)))
+    (λ p. let l = p.short in (subst (λ (x : Bytes). length x ≤ 7) s.0 l, ap (λ (x : Bytes). pos (value_of_digits x)) (sym s.0) ∙ sym (unsigned g p)))
     (λ m. absurd (s.1 (let e = ap length m.1 in omega arith) (ap (λ (x : Bytes). get_or x 0 0) m.1)))
     t
 coefficient_value (Negative d n k) g s t =
@@ -40,19 +40,19 @@ coefficient_value (Negative d n k) g s t =
     (λ m.
     let same : d.now ≡ m.0 = tail_same (sym s ∙ m.1) in
     let l = m.2.short in
-    (let e = ap length same in omega arith, ap signed (sym s)))
+    (let e = ap length same in omega arith, ap value_of_signed (sym s)))
     t
   where
     minus : Plain (45 ∷ d.now) → ⊥
     minus q = let h = q.digits.0 in omega arith
 
 -- what is read where a field is taken, and 0 where none is
-pub number_read : (s t : Fields) (o : Option Field) (r : ℕ) → FieldStep s o t → MatchOption o (r ≡ 0) (λ f. length (digits_of f) ≤ 7 → r ≡ decimal (digits_of f)) → ReadsNumber (rest_of s) r (rest_of t)
+pub number_read : (s t : Fields) (o : Option Field) (r : ℕ) → FieldStep s o t → MatchOption o (r ≡ 0) (λ f. length (digits_of f) ≤ 7 → r ≡ value_of_digits (digits_of f)) → ReadsNumber (rest_of s) r (rest_of t)
 number_read s t None r step is g gs here plain = absurd (step.first g gs here (text_unbroken Number g plain))
 number_read s t (Some f) r step is g gs here plain =
     let told = step.first g gs here (text_unbroken Number g plain) in
     let digits = number_digits f g told.0 plain in
-    (is digits.0 ∙ ap decimal digits.1, told.1)
+    (is digits.0 ∙ ap value_of_digits digits.1, told.1)
 
 pub coefficient_read : (s t : Fields) (o : Option Field) (r : ℤ) → FieldStep s o t → MatchOption o (r ≡ pos 0) (λ f. length (digits_of f) ≤ 7 → r ≡ value_of f) → ReadsCoefficient (rest_of s) r (rest_of t)
 coefficient_read s t None r step is g gs here kind = absurd (step.first g gs here (text_unbroken Coefficient g kind))

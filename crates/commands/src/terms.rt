@@ -1,7 +1,9 @@
 //! The terms of one law.
 ghost use Rattle.std.specs.Prelude.{◌≡◌, ◌+◌, ◌<◌, take, slice_set};
+ghost use Rattle.netlist.specs.Limits.{most_terms_of_law};
 
-use netlist::terms::{MOST_TERMS, RawTerm};
+use netlist::limits::MOST_TERMS;
+use netlist::terms::RawTerm;
 
 /// The first `count` of the slots are the law's terms. An `ArrayVec` would not be `Copy`, which a
 /// command may not lose.
@@ -14,7 +16,7 @@ pub struct Terms {
 impl Terms {
     // Adds a term in the next slot.
     pub(crate) fn push(&mut self, term: RawTerm)
-        requires { self.old.count < 8 }
+        requires { self.old.count < most_terms_of_law }
         ensures slots { self.new.slots ≡ slice_set self.old.slots self.old.count term }
         ensures count { self.new.count ≡ self.old.count + 1 }
     {

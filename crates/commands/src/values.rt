@@ -1,31 +1,31 @@
 //! The command of each letter, from the fields after it.
-ghost use Rattle.std.specs.Prelude.{ℕ, [], ◌∷◌};
 ghost use Rattle.text.specs.Reading.{rest_of};
-ghost use Rattle.text.specs.declared.kinds.Kind.TheVariants.{Number, Coefficient};
-ghost use Rattle.commands.specs.Steps.{Reads, ReadsLaw, node_kinds, branch_kinds, earth_kinds, repeat_kinds};
+ghost use Rattle.text.specs.Grammar.{value_kinds, branch_kinds, earth_kinds, repeat_kinds};
+ghost use Rattle.commands.specs.Steps.{ReadsCommand, ReadsLaw};
 
 use super::command::Command;
 use super::next::{next_coefficient, next_number, next_size, next_term};
 use super::terms::Terms;
-use netlist::terms::{MOST_TERMS, RawTerm};
+use netlist::limits::MOST_TERMS;
+use netlist::terms::RawTerm;
 use text::Fields;
 
 pub(crate) fn node(mut fields: Fields<'_>) -> Command
-    ensures { Reads 78 node_kinds (rest_of fields.entry) result }
+    ensures { ReadsCommand 78 value_kinds (rest_of fields.entry) result }
 {
     let domain = next_number(&mut fields);
     Command::Node { domain }
 }
 
 pub(crate) fn variables(mut fields: Fields<'_>) -> Command
-    ensures { Reads 86 node_kinds (rest_of fields.entry) result }
+    ensures { ReadsCommand 86 value_kinds (rest_of fields.entry) result }
 {
     let count = next_size(&mut fields);
     Command::Variables { count }
 }
 
 pub(crate) fn branch(mut fields: Fields<'_>) -> Command
-    ensures { Reads 66 branch_kinds (rest_of fields.entry) result }
+    ensures { ReadsCommand 66 branch_kinds (rest_of fields.entry) result }
 {
     let flow = next_size(&mut fields);
     let across = next_size(&mut fields);
@@ -40,7 +40,7 @@ pub(crate) fn branch(mut fields: Fields<'_>) -> Command
 }
 
 pub(crate) fn earth(mut fields: Fields<'_>) -> Command
-    ensures { Reads 69 earth_kinds (rest_of fields.entry) result }
+    ensures { ReadsCommand 69 earth_kinds (rest_of fields.entry) result }
 {
     let flow = next_size(&mut fields);
     let across = next_size(&mut fields);
@@ -49,7 +49,7 @@ pub(crate) fn earth(mut fields: Fields<'_>) -> Command
 }
 
 pub(crate) fn repeat(mut fields: Fields<'_>) -> Command
-    ensures { Reads 67 repeat_kinds (rest_of fields.entry) result }
+    ensures { ReadsCommand 67 repeat_kinds (rest_of fields.entry) result }
 {
     let domain = next_number(&mut fields);
     let c1 = next_coefficient(&mut fields);

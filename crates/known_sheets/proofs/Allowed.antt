@@ -4,7 +4,7 @@ use Rattle.std.proofs.lemmas.Bool.{false≢true}
 use Rattle.std.proofs.lemmas.Bool.Decides.{nat_tests}
 use Rattle.text.specs.declared.kinds.Kind.{Kind}
 use Rattle.text.specs.declared.kinds.Kind.TheVariants.{Number, Coefficient}
-use Rattle.text.specs.Grammar.{Bytes, Digits, Plain, Text, Matches, Grouped, repeated, row}
+use Rattle.text.specs.Grammar.{Bytes, Digits, Plain, Text, Matches, Grouped, kinds_repeated, spaced}
 
 abbrev pub are_digits : Bytes → Bool
 are_digits [] = true
@@ -48,5 +48,5 @@ matches (k ∷ ks) [] e = absurd (false≢true e)
 matches (k ∷ ks) (f ∷ fs) e = (text k f (grind (arith, nat_tests)), matches ks fs (grind (arith, nat_tests)))
 
 -- m groups of fields, of at most n
-pub grouped : (ks : List Kind) (n m : ℕ) (fs : List Bytes) → (nat_le 1 m && (nat_le m n && matching (repeated m ks) fs)) ≡ true → Grouped ks n (row fs)
-grouped ks n m fs e = (m, fs, grind (arith, nat_tests), grind (arith, nat_tests), matches (repeated m ks) fs (grind (arith, nat_tests)), refl)
+pub grouped : (ks : List Kind) (n m : ℕ) (fs : List Bytes) → (nat_le 1 m && (nat_le m n && matching (kinds_repeated m ks) fs)) ≡ true → Grouped ks n (spaced fs)
+grouped ks n m fs e = (m, fs, grind (arith, nat_tests), grind (arith, nat_tests), matches (kinds_repeated m ks) fs (grind (arith, nat_tests)), refl)

@@ -3,7 +3,7 @@ use Rattle.std.proofs.Common.{◌≡◌, ℕ, zero, suc, ◌*◌, ◌≤◌, Lis
 use Rattle.text.specs.declared.kinds.Kind.{Kind}
 use Rattle.text.specs.declared.kinds.Kind.TheVariants.{Number, Coefficient}
 use Rattle.text.specs.Faults.{FaultAt}
-use Rattle.text.specs.Grammar.{Bytes, Allowed, Text, Matches, repeated, row}
+use Rattle.text.specs.Grammar.{Bytes, Allowed, Text, Matches, kinds_repeated, spaced}
 use Rattle.known_sheets.specs.Table.{half_branch}
 use Rattle.known_sheets.proofs.Allowed.{grouped}
 
@@ -16,12 +16,12 @@ some Coefficient f (inl p) = p.some
 some Coefficient f (inr p) = omega (arith, ap length p.1)
 
 -- each field has a byte at least, and a blank in front
-long : (ks : List Kind) (fs : List Bytes) → Matches ks fs → 2 * length ks ≤ length (row fs)
+long : (ks : List Kind) (fs : List Bytes) → Matches ks fs → 2 * length ks ≤ length (spaced fs)
 long [] fs m = omega arith
 long (k ∷ ks) [] m = absurd m
-long (k ∷ ks) (f ∷ fs) m = omega (arith, length-append f (row fs), some k f m.0, long ks fs m.1)
+long (k ∷ ks) (f ∷ fs) m = omega (arith, length-append f (spaced fs), some k f m.0, long ks fs m.1)
 
-too_few : (m : ℕ) (fs : List Bytes) → 1 ≤ m → m ≤ 1 → Matches (repeated m four) fs → codes " 0 1 0" ≡ row fs → ⊥
+too_few : (m : ℕ) (fs : List Bytes) → 1 ≤ m → m ≤ 1 → Matches (kinds_repeated m four) fs → codes " 0 1 0" ≡ spaced fs → ⊥
 too_few zero fs low high matches e = omega arith
 too_few (suc zero) fs low high matches e = omega (arith, long four fs matches, ap length e)
 too_few (suc (suc m)) fs low high matches e = omega arith

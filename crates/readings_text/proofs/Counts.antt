@@ -4,9 +4,9 @@ use Rattle.text.specs.Grammar.{Bytes}
 use Rattle.readings_text.specs.declared.faults.ReadingsFault.{ReadingsFault}
 use Rattle.readings_text.specs.declared.faults.ReadingsFault.TheVariants.{TooFew}
 use Rattle.readings_text.specs.declared.lines.Reading.{Reading}
-use Rattle.readings_text.specs.Readings.{Answer, Gives}
+use Rattle.readings_text.specs.Readings.{Gives, ReadingsAnswer}
 
-told : (enough : Bool) (f : ReadingsFault) → ◌≡◌ {A = Answer} (Ok tt) (cond enough (Ok tt) (Err f)) → true ≡ enough
+told : (enough : Bool) (f : ReadingsFault) → ◌≡◌ {A = ReadingsAnswer} (Ok tt) (cond enough (Ok tt) (Err f)) → true ≡ enough
 told true f e = refl
 told false f e = cc
 

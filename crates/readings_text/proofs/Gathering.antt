@@ -8,8 +8,8 @@ use Rattle.text.specs.Newlines.{lines_of}
 use Rattle.readings_text.specs.declared.faults.ReadingsFault.{ReadingsFault}
 use Rattle.readings_text.specs.declared.faults.ReadingsFault.TheVariants.{TooFew}
 use Rattle.readings_text.specs.declared.lines.Reading.{Reading}
-use Rattle.readings_text.specs.Lines.{WritesReading, AtFault}
-use Rattle.readings_text.specs.Readings.{Answer, Gives, ReadsReadings}
+use Rattle.readings_text.specs.Lines.{WritesReading, ReadingAtFault}
+use Rattle.readings_text.specs.Readings.{Gives, ReadsReadings, ReadingsAnswer}
 
 module _ (text : Bytes) (variables : ℕ) (values rates : List Whole) where
   -- some readings are read, and reading on is reading all
@@ -18,7 +18,7 @@ module _ (text : Bytes) (variables : ℕ) (values rates : List Whole) where
       (vs : List Reading)
       × (values' ≡ values ++ map (λ (v : Reading). v.value) vs)
       × (rates' ≡ rates ++ map (λ (v : Reading). v.rate) vs)
-      × ((r : Answer) (ws : List Reading) → Gives wanted n (lines_of rest) r ws → Gives variables 0 (lines_of text) r (vs ++ ws))
+      × ((r : ReadingsAnswer) (ws : List Reading) → Gives wanted n (lines_of rest) r ws → Gives variables 0 (lines_of text) r (vs ++ ws))
 
   pushed : {X : Type 0} (f : Reading → X) (xs ys zs : List X) (vs : List Reading) (v : Reading) → ys ≡ xs ++ map f vs → zs ≡ ys ++ f v ∷ [] → zs ≡ xs ++ map f (vs ++ v ∷ [])
   pushed f xs ys zs vs v was now = now ∙ ap (λ (y : List _). y ++ f v ∷ []) was ∙ append_assoc xs (map f vs) (f v ∷ []) ∙ ap (λ (y : List _). xs ++ y) (sym (map-append f vs (v ∷ [])))
@@ -33,15 +33,15 @@ module _ (text : Bytes) (variables : ℕ) (values rates : List Whole) where
         subst (Gives variables 0 (lines_of text) r) (sym (append_assoc kept.0 (v ∷ []) ws)) (kept.3 r (v ∷ ws) (subst (λ (ls : List Bytes). Gives wanted n ls r (v ∷ ws)) (sym listed) here)),
   )
 
-  ends : (wanted n : ℕ) (rest : Bytes) (r : Answer) (values' rates' : List Whole) → Kept wanted n rest values' rates' → Gives wanted n (lines_of rest) r [] → ReadsReadings text variables r values rates values' rates'
+  ends : (wanted n : ℕ) (rest : Bytes) (r : ReadingsAnswer) (values' rates' : List Whole) → Kept wanted n rest values' rates' → Gives wanted n (lines_of rest) r [] → ReadsReadings text variables r values rates values' rates'
   ends wanted n rest r values' rates' kept g = (kept.0, subst (Gives variables 0 (lines_of text) r) (append-nil kept.0) (kept.3 r [] g), kept.1, kept.2)
 
-  pub at_fault : (wanted n : ℕ) (rest rest' line : Bytes) (f : ReadingsFault) (values' rates' : List Whole) → Kept wanted n rest values' rates' → lines_of rest ≡ line ∷ lines_of rest' → AtFault wanted (n + 1) line f → ReadsReadings text variables (Err f) values rates values' rates'
+  pub at_fault : (wanted n : ℕ) (rest rest' line : Bytes) (f : ReadingsFault) (values' rates' : List Whole) → Kept wanted n rest values' rates' → lines_of rest ≡ line ∷ lines_of rest' → ReadingAtFault wanted (n + 1) line f → ReadsReadings text variables (Err f) values rates values' rates'
   at_fault wanted n rest rest' line f values' rates' kept listed fault =
       let here : Gives wanted n (line ∷ lines_of rest') (Err f) [] = inr (inr (fault, refl)) in
       ends wanted n rest (Err f) values' rates' kept (subst (λ (ls : List Bytes). Gives wanted n ls (Err f) []) (sym listed) here)
 
-  at_end : (wanted n : ℕ) (rest : Bytes) (r : Answer) (values' rates' : List Whole) → Kept wanted n rest values' rates' → lines_of rest ≡ [] → r ≡ cond (eqb wanted 0) (Ok tt) (Err (TooFew n)) → ReadsReadings text variables r values rates values' rates'
+  at_end : (wanted n : ℕ) (rest : Bytes) (r : ReadingsAnswer) (values' rates' : List Whole) → Kept wanted n rest values' rates' → lines_of rest ≡ [] → r ≡ cond (eqb wanted 0) (Ok tt) (Err (TooFew n)) → ReadsReadings text variables r values rates values' rates'
   at_end wanted n rest r values' rates' kept listed is =
       ends wanted n rest r values' rates' kept (subst (λ (ls : List Bytes). Gives wanted n ls r []) (sym listed) (refl, is))
 

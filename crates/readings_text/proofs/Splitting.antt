@@ -4,16 +4,16 @@ use Rattle.std.proofs.lemmas.List.{take_rest}
 use Rattle.quantity.specs.declared.numbers.Whole.{Whole}
 use Rattle.text.specs.Grammar.{Bytes}
 use Rattle.readings_text.specs.declared.lines.Reading.{Reading}
-use Rattle.readings_text.specs.Numbers.{Number, Writes}
+use Rattle.readings_text.specs.Numbers.{Writes, SomeDigits}
 use Rattle.readings_text.specs.Lines.{WritesReading}
 
 abbrev NoBlank : Bytes → ℕ → Type 0
 NoBlank f n = (k : ℕ) → k < n → get_or f k 0 ≡ 32 → ⊥
 
-digits_no_blank : (f : Bytes) → Number f → NoBlank f (length f)
+digits_no_blank : (f : Bytes) → SomeDigits f → NoBlank f (length f)
 digits_no_blank f n k l e = let h = n.digits k 0 l in omega arith
 
-behind_minus : (g : Bytes) → Number g → NoBlank (45 ∷ g) (length (45 ∷ g))
+behind_minus : (g : Bytes) → SomeDigits g → NoBlank (45 ∷ g) (length (45 ∷ g))
 behind_minus g n zero l e = omega arith
 behind_minus g n (suc k) l e = digits_no_blank g n k (omega arith) e
 

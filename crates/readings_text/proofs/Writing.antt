@@ -3,7 +3,7 @@ use Rattle.std.proofs.Common.{◌≡◌, ℕ, ◌∷◌, [], inl, inr, ⊎_elim,
 use Rattle.std.proofs.lemmas.List.{drop_more, take_rest}
 use Rattle.quantity.specs.declared.numbers.Whole.{Whole}
 use Rattle.text.specs.Grammar.{Bytes}
-use Rattle.readings_text.specs.Numbers.{Number, Negative, Positive, Writes}
+use Rattle.readings_text.specs.Numbers.{Writes, SomeDigits, WritesNegative, WritesPositive}
 
 head_same : {a b : ℕ} {x y : Bytes} → ◌≡◌ {A = Bytes} (a ∷ x) (b ∷ y) → a ≡ b
 head_same p = cc
@@ -12,7 +12,7 @@ tail_same : {a b : ℕ} {x y : Bytes} → ◌≡◌ {A = Bytes} (a ∷ x) (b ∷
 tail_same p = cc
 
 -- a minus is no digit
-not_plain : (text g : Bytes) → text ≡ 45 ∷ g → Number text → ⊥
+not_plain : (text g : Bytes) → text ≡ 45 ∷ g → SomeDigits text → ⊥
 not_plain [] g e n = let l = n.some in omega arith
 not_plain (b ∷ bs) g e n = let q = head_same e in let h = n.digits 0 0 (omega arith) in omega arith
 
@@ -20,11 +20,11 @@ not_plain (b ∷ bs) g e n = let q = head_same e in let h = n.digits 0 0 (omega 
 abbrev pub Told : (Whole → Type 0) → Option Whole → Type 0
 Told P r = MatchOption r ((w : Whole) → P w → ⊥) P
 
-pub with_minus : (text g : Bytes) (r : Option Whole) → text ≡ 45 ∷ g → Told (Negative g) r → Told (Writes text) r
-with_minus text g None e h = λ w. ⊎_elim (λ p. not_plain text g e p.0) (λ q. h w (subst (λ (x : Bytes). Negative x w) (tail_same (sym q.1 ∙ e)) q.2))
+pub with_minus : (text g : Bytes) (r : Option Whole) → text ≡ 45 ∷ g → Told (WritesNegative g) r → Told (Writes text) r
+with_minus text g None e h = λ w. ⊎_elim (λ p. not_plain text g e p.0) (λ q. h w (subst (λ (x : Bytes). WritesNegative x w) (tail_same (sym q.1 ∙ e)) q.2))
 with_minus text g (Some w) e h = inr (g, e, h)
 
-pub with_none : (text : Bytes) (r : Option Whole) → ((g : Bytes) → text ≡ 45 ∷ g → ⊥) → Told (Positive text) r → Told (Writes text) r
+pub with_none : (text : Bytes) (r : Option Whole) → ((g : Bytes) → text ≡ 45 ∷ g → ⊥) → Told (WritesPositive text) r → Told (Writes text) r
 with_none text None e h = λ w. ⊎_elim (λ p. h w p) (λ q. e q.0 q.1)
 with_none text (Some w) e h = inl h
 

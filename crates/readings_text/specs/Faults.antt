@@ -4,7 +4,7 @@ use Rattle.text.specs.Grammar.{Bytes}
 use Rattle.readings_text.specs.declared.faults.ReadingsFault.{ReadingsFault}
 use Rattle.readings_text.specs.declared.faults.ReadingsFault.TheVariants.{Form, TooMany, TooFew}
 
-abbrev pub fault_text : ReadingsFault → Bytes
-fault_text (Form n) = codes "readings fault " ++ decimal n ++ codes ": not a value, a blank and a rate"
-fault_text (TooMany n) = codes "readings fault " ++ decimal n ++ codes ": more readings than variables"
-fault_text (TooFew n) = codes "readings fault " ++ decimal n ++ codes ": fewer readings than variables"
+abbrev pub readings_fault_text : ReadingsFault → Bytes
+readings_fault_text (Form n) = codes "readings fault " ++ decimal n ++ codes ": not a value, a blank and a rate"
+readings_fault_text (TooMany n) = codes "readings fault " ++ decimal n ++ codes ": more readings than variables"
+readings_fault_text (TooFew n) = codes "readings fault " ++ decimal n ++ codes ": fewer readings than variables"

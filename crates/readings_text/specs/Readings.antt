@@ -6,21 +6,24 @@ use Rattle.text.specs.Newlines.{lines_of}
 use Rattle.readings_text.specs.declared.faults.ReadingsFault.{ReadingsFault}
 use Rattle.readings_text.specs.declared.faults.ReadingsFault.TheVariants.{TooFew}
 use Rattle.readings_text.specs.declared.lines.Reading.{Reading}
-use Rattle.readings_text.specs.Lines.{Silent, WritesReading, AtFault}
+use Rattle.readings_text.specs.Lines.{Silent, WritesReading, ReadingAtFault}
 
-abbrev pub Answer : Type 0
-Answer = Result (Unit {0}) ReadingsFault
+-- what the reader of readings answers
+abbrev pub ReadingsAnswer : Type 0
+ReadingsAnswer = Result (Unit {0}) ReadingsFault
 
--- The lines read vs in turn, up to the first line at fault. n lines stand before these, and so many readings are wanted.
-abbrev pub Gives : ℕ → ℕ → List Bytes → Answer → List Reading → Type 0
+-- The lines read vs in turn, up to the first line at fault. n lines stand before these, and so many readings are
+-- wanted.
+abbrev pub Gives : ℕ → ℕ → List Bytes → ReadingsAnswer → List Reading → Type 0
 Gives wanted n [] r vs = (vs ≡ []) × (r ≡ cond (wanted == 0) (Ok tt) (Err (TooFew n)))
 Gives wanted n (line ∷ lines) r vs =
     (Silent line × Gives wanted (n + 1) lines r vs)
-    ⊎ ((v : Reading) × (ws : List Reading) × WritesReading line v × (1 ≤ wanted) × (vs ≡ v ∷ ws) × Gives (wanted - 1) (n + 1) lines r ws)
-    ⊎ (IsErrAnd r (AtFault wanted (n + 1) line) × (vs ≡ []))
+    ⊎ ((v : Reading) × (ws : List Reading)
+    × WritesReading line v × (1 ≤ wanted) × (vs ≡ v ∷ ws) × Gives (wanted - 1) (n + 1) lines r ws)
+    ⊎ (IsErrAnd r (ReadingAtFault wanted (n + 1) line) × (vs ≡ []))
 
 -- the text reads these, whose values and rates stand behind the old ones
-abbrev pub ReadsReadings : Bytes → ℕ → Answer → List Whole → List Whole → List Whole → List Whole → Type 0
+abbrev pub ReadsReadings : Bytes → ℕ → ReadingsAnswer → List Whole → List Whole → List Whole → List Whole → Type 0
 ReadsReadings text variables r values rates values' rates' =
     (vs : List Reading)
     × Gives variables 0 (lines_of text) r vs

@@ -1,10 +1,10 @@
 //! Why readings are not read to their end.
 ghost use Rattle.std.specs.Prelude.{Some};
-ghost use Rattle.readings_text.specs.Faults.{fault_text};
+ghost use Rattle.readings_text.specs.Faults.{readings_fault_text};
 
 use std::fmt;
 
-/// Lines are counted from 1.
+/// Why readings are not read to their end. Lines are counted from 1.
 #[derive(Clone, Copy, PartialEq, Eq, Debug)]
 pub enum ReadingsFault {
     /// The line is no reading, no comment and not empty.
@@ -17,7 +17,7 @@ pub enum ReadingsFault {
 
 // As a user is told of it.
 impl fmt::Display for ReadingsFault {
-    ghost output = { λ f. Some (fault_text f) };
+    ghost output = { λ f. Some (readings_fault_text f) };
 
     fn fmt<W: fmt::Write>(&self, f: &mut fmt::Formatter<W>) -> fmt::Result {
         match self {

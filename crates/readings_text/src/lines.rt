@@ -1,7 +1,7 @@
 //! A line of readings.
-ghost use Rattle.std.specs.Prelude.{◌≡◌, ℕ, ◌<◌, ◌≤◌, length, MatchOption, MatchResult, slice_index, ◌≢◌};
+ghost use Rattle.std.specs.Prelude.{◌≡◌, ℕ, ◌<◌, ◌≤◌, length, MatchOption, slice_index, ◌≢◌};
 ghost use Rattle.std.specs.Bool.{Decides};
-ghost use Rattle.readings_text.specs.Lines.{AtFault, Reads, Silent, WritesReading};
+ghost use Rattle.readings_text.specs.Lines.{SaidOfLine, Silent, WritesReading};
 
 use crate::faults::ReadingsFault;
 use crate::numbers::number;
@@ -11,7 +11,9 @@ use text::TextLine;
 /// What is read of a variable.
 #[derive(Clone, Copy, PartialEq, Eq, Debug)]
 pub struct Reading {
+    /// What it is.
     pub value: Whole,
+    /// How fast it changes.
     pub rate: Whole,
 }
 
@@ -46,7 +48,7 @@ fn is_silent(line: &[u8]) -> bool
 
 // What the line reads, or nothing; or its fault. So many readings are wanted yet.
 pub(crate) fn read_line(line: TextLine<'_>, wanted: usize) -> Result<Option<Reading>, ReadingsFault>
-    ensures { MatchResult result (Reads wanted line.entry.bytes.now) (AtFault wanted line.entry.number line.entry.bytes.now) }
+    ensures { SaidOfLine wanted line.entry result }
 {
     let number = line.number;
     if is_silent(line.bytes) {

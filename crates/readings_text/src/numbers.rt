@@ -1,9 +1,9 @@
 //! Whole numbers as a text writes them.
 ghost use Rattle.std.specs.Prelude.{◌≡◌, ◌-◌, ◌^◌, min, MatchOption, Decides};
 ghost use Rattle.std.specs.List.{All};
-ghost use Rattle.text.specs.Decimal.{decimal};
+ghost use Rattle.text.specs.Decimal.{value_of_digits};
 ghost use Rattle.text.specs.Grammar.{Digit};
-ghost use Rattle.readings_text.specs.Numbers.{Number, Negative, Positive, Writes};
+ghost use Rattle.readings_text.specs.Numbers.{SomeDigits, WritesNegative, WritesPositive, Writes};
 
 use quantity::Whole;
 
@@ -14,14 +14,14 @@ fn are_digits(text: &[u8]) -> bool
 }
 
 fn is_number(text: &[u8]) -> bool
-    ensures { Decides result (Number text.now) }
+    ensures { Decides result (SomeDigits text.now) }
 {
     !text.is_empty() && are_digits(text)
 }
 
 // The number that the digits write. What does not fit counts as the largest that does.
 fn magnitude(digits: &[u8]) -> u64
-    ensures { result ≡ min (decimal digits.now) (2 ^ 64 - 1) }
+    ensures { result ≡ min (value_of_digits digits.now) (2 ^ 64 - 1) }
 {
     digits.iter().fold(0u64, |sum, b| {
         sum.saturating_mul(10)
@@ -30,7 +30,7 @@ fn magnitude(digits: &[u8]) -> u64
 }
 
 fn positive(digits: &[u8]) -> Option<Whole>
-    ensures { MatchOption result ((w : Whole) → Positive digits.now w → ⊥) (Positive digits.now) }
+    ensures { MatchOption result ((w : Whole) → WritesPositive digits.now w → ⊥) (WritesPositive digits.now) }
 {
     if !is_number(digits) {
         return None;
@@ -40,7 +40,7 @@ fn positive(digits: &[u8]) -> Option<Whole>
 }
 
 fn negative(digits: &[u8]) -> Option<Whole>
-    ensures { MatchOption result ((w : Whole) → Negative digits.now w → ⊥) (Negative digits.now) }
+    ensures { MatchOption result ((w : Whole) → WritesNegative digits.now w → ⊥) (WritesNegative digits.now) }
 {
     if !is_number(digits) {
         return None;

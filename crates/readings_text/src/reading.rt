@@ -16,7 +16,8 @@ pub fn read_readings(
     values: &mut Vec<Whole>,
     rates: &mut Vec<Whole>,
 ) -> Result<Result<(), ReadingsFault>, AllocError>
-    ensures { IfOk result (λ r. ReadsReadings text.now variables r values.old.items rates.old.items values.new.items rates.new.items) }
+    ensures { IfOk result (λ r. ReadsReadings text.now variables r
+        values.old.items rates.old.items values.new.items rates.new.items) }
 {
     let mut wanted = variables;
     let mut last = 0;

@@ -1,23 +1,23 @@
 -- Groups of fields as slots, and from the lines of one form to all lines.
 use Rattle.std.proofs.Common.{◌≡◌, ℕ, zero, suc, ◌-◌, ◌<◌, ◌≤◌, false, List, [], ◌∷◌, ◌++◌, length, get_or, take, sym, refl, subst, arith}
 use Rattle.text.specs.declared.kinds.Kind.{Kind}
-use Rattle.text.specs.Grammar.{Bytes, Matches, repeated, Grouped, groups, form, Rest, Allowed}
+use Rattle.text.specs.Grammar.{Bytes, Matches, Grouped, groups, form, Rest, Allowed, kinds_repeated}
 use Rattle.text.specs.Faults.{Begins, FaultAt}
-use Rattle.text.specs.Scan.{Fits, none, marked, layout, Row, Laid}
+use Rattle.text.specs.Scan.{Fits, marked, layout, Laid, no_kinds, FieldsFor}
 
 -- K is a group of at least one field
 module _ (k₀ : Kind) (K₀ : List Kind) where
   abbrev K : List Kind
   K = k₀ ∷ K₀
 
-  fits_in : (ks : List Kind) (n : ℕ) (fs : List Bytes) → Fits (none ks) (marked ks (layout K n)) fs → (j : ℕ) × (j ≤ n) × Matches (ks ++ repeated j K) fs
+  fits_in : (ks : List Kind) (n : ℕ) (fs : List Bytes) → Fits (no_kinds ks) (marked ks (layout K n)) fs → (j : ℕ) × (j ≤ n) × Matches (ks ++ kinds_repeated j K) fs
   fits_in [] n [] h = (0, omega arith, tt)
   fits_in [] zero (f ∷ fs) h = absurd h
   fits_in [] (suc n) (f ∷ fs) h = let r = fits_in K₀ n fs h.1 in let l = r.1 in (suc r.0, omega arith, (h.0, r.2))
   fits_in (k ∷ ks) n [] h = let z : ◌≡◌ {A = ℕ} 0 1 = cc in absurd (omega arith)
   fits_in (k ∷ ks) n (f ∷ fs) h = let r = fits_in ks n fs h.1 in (r.0, r.1, (h.0, r.2))
 
-  fits_out : (ks : List Kind) (n : ℕ) (fs : List Bytes) (j : ℕ) → j ≤ n → Matches (ks ++ repeated j K) fs → Fits (none ks) (marked ks (layout K n)) fs
+  fits_out : (ks : List Kind) (n : ℕ) (fs : List Bytes) (j : ℕ) → j ≤ n → Matches (ks ++ kinds_repeated j K) fs → Fits (no_kinds ks) (marked ks (layout K n)) fs
   fits_out [] n [] zero l h = refl
   fits_out [] n (f ∷ fs) zero l h = absurd h
   fits_out [] n [] (suc j) l h = absurd h
@@ -26,7 +26,7 @@ module _ (k₀ : Kind) (K₀ : List Kind) where
   fits_out (k ∷ ks) n [] j l h = absurd h
   fits_out (k ∷ ks) n (f ∷ fs) j l h = (h.0, fits_out ks n fs j l h.1)
 
-  pub row_grouped : (n : ℕ) (bs : Bytes) → Row (layout K n) bs → Grouped K n bs
+  pub row_grouped : (n : ℕ) (bs : Bytes) → FieldsFor (layout K n) bs → Grouped K n bs
   row_grouped zero bs r = absurd (empty r.0 r.2)
     where
       empty : (fs : List Bytes) → Fits false [] fs → ⊥
@@ -34,10 +34,10 @@ module _ (k₀ : Kind) (K₀ : List Kind) where
       empty (f ∷ fs) h = h
   row_grouped (suc n) bs r = let g = fits_in K n r.0 r.2 in let l = g.1 in (suc g.0, r.0, omega arith, omega arith, g.2, r.1)
 
-  pub grouped_row : (n : ℕ) (bs : Bytes) → Grouped K n bs → Row (layout K n) bs
+  pub grouped_row : (n : ℕ) (bs : Bytes) → Grouped K n bs → FieldsFor (layout K n) bs
   grouped_row n bs g = go n g.0 g.2 g.3 g.4
     where
-      go : (n m : ℕ) → 1 ≤ m → m ≤ n → Matches (repeated m K) g.1 → Row (layout K n) bs
+      go : (n m : ℕ) → 1 ≤ m → m ≤ n → Matches (kinds_repeated m K) g.1 → FieldsFor (layout K n) bs
       go n zero some l h = absurd (omega arith)
       go zero (suc m) some l h = absurd (omega arith)
       go (suc n) (suc m) some l h = (g.1, g.5, fits_out K n g.1 m (omega arith) h)
@@ -52,8 +52,8 @@ module _ (k₀ : Kind) (K₀ : List Kind) where
   fault_form (c ∷ bs) n (suc zero) is h f = absurd (omega arith)
   fault_form (c ∷ bs) n (suc (suc m)) is h f =
       let back : suc (suc m) - 1 ≡ suc m = omega arith in
-      let in-to : (x : Bytes) → Rest (form c) x → Row (layout K n) x = λ x g. grouped_row n x (subst (λ F. Rest F x) is g) in
-      let out : (x : Bytes) → Row (layout K n) x → Rest (form c) x = λ x g. subst (λ F. Rest F x) (sym is) (row_grouped n x g) in
+      let in-to : (x : Bytes) → Rest (form c) x → FieldsFor (layout K n) x = λ x g. grouped_row n x (subst (λ F. Rest F x) is g) in
+      let out : (x : Bytes) → FieldsFor (layout K n) x → Rest (form c) x = λ x g. subst (λ F. Rest F x) (sym is) (row_grouped n x g) in
       let b : Begins (Laid (layout K n)) (c ∷ take m bs) = subst (λ k. Begins (Laid (layout K n)) (take k (c ∷ bs))) back f.begins in
       let b' : Begins Allowed (take (suc m) (c ∷ bs)) = (b.0, out (take m bs ++ b.0) b.1) in
       record {

@@ -5,9 +5,9 @@ use Rattle.std.proofs.lemmas.List.{take_all, take_more, drop_more, drop_all, tak
 use Rattle.std.proofs.lemmas.Bool.{cases_lt, cases_eq}
 use Rattle.text.specs.declared.kinds.Kind.{Kind}
 use Rattle.text.specs.declared.kinds.Kind.TheVariants.{Number}
-use Rattle.text.specs.Grammar.{Bytes, Digit, row}
+use Rattle.text.specs.Grammar.{Bytes, Digit, spaced}
 use Rattle.text.specs.Faults.{Begins, FaultAt}
-use Rattle.text.specs.Scan.{Slot, Fits, none, marked, layout, Row, Laid, Next, Fillable, Gap, SignEnd, DigitRun}
+use Rattle.text.specs.Scan.{Slot, Fits, marked, layout, Laid, Next, Fillable, Gap, SignEnd, DigitRun, no_kinds, FieldsFor}
 use Rattle.text.proofs.Steps.{
   After,
   after_digit_in,
@@ -97,7 +97,7 @@ module _ {all : List Slot} {line : Bytes} where
   }
     where
       begun : (us : List Slot) → Fillable e ts → Begins (Laid all) (take i line)
-      begun us f = let r = row f.0 in (r, l.from r ([], f.0, refl, tt, omega arith, f.1))
+      begun us f = let r = spaced f.0 in (r, l.from r ([], f.0, refl, tt, omega arith, f.1))
 
   -- the blank of a field
   pub gap_blank : (i : ℕ) (e : Bool) (ts : List Slot) → Gap all line i e ts → i < length line → get_or line i 0 ≡ 32 → Left all line (i + 1) (Next ts)
@@ -155,7 +155,7 @@ module _ {all : List Slot} {line : Bytes} where
         where
           go : (fs : List Bytes) → Fits false ((k, e) ∷ ts) fs → Begins (Laid all) (take i line)
           go [] p = let z : ◌≡◌ {A = ℕ} 0 1 = cc in absurd (omega arith)
-          go (x ∷ fs) p = let r = x ++ row fs in (r, l.from r (x, fs, refl, p.0, p.1))
+          go (x ∷ fs) p = let r = x ++ spaced fs in (r, l.from r (x, fs, refl, p.0, p.1))
 
   -- the sign of a field, and then its digits
   pub sign_on : (k : Kind) (e : Bool) (ts : List Slot) (i j : ℕ) → Left all line i (Next ((k, e) ∷ ts)) → SignEnd line i k j → (k' : Kind) × Left all line j (Next ((k', e) ∷ ts)) × (j < length line → get_or line j 0 ≡ 45 → k' ≡ Number)
@@ -197,40 +197,40 @@ module _ {all : List Slot} (line l m : Bytes) (at i from n : ℕ) (k : Kind) (e 
   field_stopped none = let w = run.within in field_fault signed.0 e ts from fill (omega arith) signed.1 (subst (DigitRun line from) none run) signed.2
 
 -- the first kind of what is left of a group
-pub gap_kind : {all : List Slot} {line : Bytes} (ks : List Kind) (i at : ℕ) (k : Kind) (ts : List Slot) → i < length ks → k ≡ get_or ks i k → Gap all line at (none (drop i ks)) (marked (drop i ks) ts) → Gap all line at false ((k, none (drop (i + 1) ks)) ∷ marked (drop (i + 1) ks) ts)
+pub gap_kind : {all : List Slot} {line : Bytes} (ks : List Kind) (i at : ℕ) (k : Kind) (ts : List Slot) → i < length ks → k ≡ get_or ks i k → Gap all line at (no_kinds (drop i ks)) (marked (drop i ks) ts) → Gap all line at false ((k, no_kinds (drop (i + 1) ks)) ∷ marked (drop (i + 1) ks) ts)
 gap_kind {all} {line} ks i at k ts h is gap =
     let front : drop i ks ≡ k ∷ drop (i + 1) ks = drop_more ks i k h ∙ ap (λ (x : Kind). x ∷ drop (i + 1) ks) (sym is) in
-    subst (λ (l : List Kind). Gap all line at (none l) (marked l ts)) front gap
+    subst (λ (l : List Kind). Gap all line at (no_kinds l) (marked l ts)) front gap
 
 -- what a field of a group answers, where l is the line as it is then
 pub group_more : (P : List Slot → Bytes → Bool → List Slot → Type 0) (all : List Slot) (line l : Bytes) (ks : List Kind) (i at : ℕ) (k : Kind) (ts : List Slot) → l ≡ line → i < length ks → k ≡ get_or ks i k
     → ((e : Bool) (us : List Slot) → Fillable e us → (all : List Slot) → Gap all l at false ((k, e) ∷ us) → P all l e us)
-    → Gap all line at (none (drop i ks)) (marked (drop i ks) ts) → P all line (none (drop (i + 1) ks)) (marked (drop (i + 1) ks) ts)
+    → Gap all line at (no_kinds (drop i ks)) (marked (drop i ks) ts) → P all line (no_kinds (drop (i + 1) ks)) (marked (drop (i + 1) ks) ts)
 group_more P all line l ks i at k ts l-is h is answer gap =
     let rest = drop (i + 1) ks in
     let here = gap_kind ks i at k ts h is gap in
-    subst (λ x. P all x (none rest) (marked rest ts)) l-is (answer (none rest) (marked rest ts) (fill_marked rest ts) all (subst (λ x. Gap all x at false ((k, none rest) ∷ marked rest ts)) (sym l-is) here))
+    subst (λ x. P all x (no_kinds rest) (marked rest ts)) l-is (answer (no_kinds rest) (marked rest ts) (fill_marked rest ts) all (subst (λ x. Gap all x at false ((k, no_kinds rest) ∷ marked rest ts)) (sym l-is) here))
 
-pub gap_all : {all : List Slot} {line : Bytes} (ks : List Kind) (i at : ℕ) (ts : List Slot) → length ks ≤ i → Gap all line at (none (drop i ks)) (marked (drop i ks) ts) → Gap all line at true ts
-gap_all {all} {line} ks i at ts h gap = subst (λ (l : List Kind). Gap all line at (none l) (marked l ts)) (drop_all i ks h) gap
+pub gap_all : {all : List Slot} {line : Bytes} (ks : List Kind) (i at : ℕ) (ts : List Slot) → length ks ≤ i → Gap all line at (no_kinds (drop i ks)) (marked (drop i ks) ts) → Gap all line at true ts
+gap_all {all} {line} ks i at ts h gap = subst (λ (l : List Kind). Gap all line at (no_kinds l) (marked l ts)) (drop_all i ks h) gap
 
-none_false : (ks : List Kind) → 1 ≤ length ks → none ks ≡ false
+none_false : (ks : List Kind) → 1 ≤ length ks → no_kinds ks ≡ false
 none_false [] h = absurd (omega arith)
 none_false (k ∷ ks) h = refl
 
 -- one group of those that are left
-pub gap_group : {all : List Slot} {line : Bytes} (ks : List Kind) (n i at : ℕ) → 1 ≤ length ks → i < n → Gap all line at false (layout ks (n - i)) → Gap all line at (none ks) (marked ks (layout ks (n - (i + 1))))
+pub gap_group : {all : List Slot} {line : Bytes} (ks : List Kind) (n i at : ℕ) → 1 ≤ length ks → i < n → Gap all line at false (layout ks (n - i)) → Gap all line at (no_kinds ks) (marked ks (layout ks (n - (i + 1))))
 gap_group {all} {line} ks n i at some h gap =
     let p : n - i ≡ suc (n - (i + 1)) = omega arith in
     subst (λ e. Gap all line at e (marked ks (layout ks (n - (i + 1))))) (sym (none_false ks some)) (subst (λ m. Gap all line at false (layout ks m)) p gap)
 
 -- what a group answers, where l is the line as it is then
 pub layout_more : (P : List Slot → Bytes → List Slot → Type 0) (line l : Bytes) (ks : List Kind) (n i at : ℕ) → l ≡ line → 1 ≤ length ks → i < n
-    → ((ts all : List Slot) → Gap all l at (none ks) (marked ks ts) → P all l ts)
+    → ((ts all : List Slot) → Gap all l at (no_kinds ks) (marked ks ts) → P all l ts)
     → Gap (layout ks n) line at false (layout ks (n - i)) → P (layout ks n) line (layout ks (n - (i + 1)))
 layout_more P line l ks n i at l-is some h answer gap =
     let rest = layout ks (n - (i + 1)) in
-    subst (λ x. P (layout ks n) x rest) l-is (answer rest (layout ks n) (subst (λ x. Gap (layout ks n) x at (none ks) (marked ks rest)) (sym l-is) (gap_group ks n i at some h gap)))
+    subst (λ x. P (layout ks n) x rest) l-is (answer rest (layout ks n) (subst (λ x. Gap (layout ks n) x at (no_kinds ks) (marked ks rest)) (sym l-is) (gap_group ks n i at some h gap)))
 
 -- after the line's first byte
 pub gap_start : (line : Bytes) (ks : List Kind) (n : ℕ) → 1 ≤ length line → 1 ≤ length ks → 1 ≤ n → Gap (layout ks n) line 1 false (layout ks n)
@@ -243,7 +243,7 @@ gap_start (c ∷ bs) ks n h some more =
       from = λ r a. none_more r a.0 a.1 a.2 a.4 a.5;
     }) (λ _ _. refl) fill
   where
-    none_more : (r ds : Bytes) (fs : List Bytes) → r ≡ ds ++ row fs → length ds ≤ 0 → Fits false (layout ks n) fs → Row (layout ks n) r
+    none_more : (r ds : Bytes) (fs : List Bytes) → r ≡ ds ++ spaced fs → length ds ≤ 0 → Fits false (layout ks n) fs → FieldsFor (layout ks n) r
     none_more r [] fs p l f = (fs, p, f)
     none_more r (d ∷ ds) fs p l f = absurd (omega arith)
 

@@ -2,12 +2,12 @@
 use Rattle.std.proofs.Common.{◌≡◌, ℕ, suc, ◌≤◌, Bool, true, false, List, [], ◌∷◌, ◌++◌, length, sym, refl, ap, ◌∙◌, subst, inl, inr, ⊎_elim, arith}
 use Rattle.text.specs.declared.kinds.Kind.{Kind}
 use Rattle.text.specs.declared.kinds.Kind.TheVariants.{Number, Coefficient}
-use Rattle.text.specs.Grammar.{Bytes, Digit, Digits, Plain, Text, row}
-use Rattle.text.specs.Scan.{Slot, Fits, none, marked, Next, Fillable}
+use Rattle.text.specs.Grammar.{Bytes, Digit, Digits, Plain, Text, spaced}
+use Rattle.text.specs.Scan.{Slot, Fits, marked, Next, Fillable, no_kinds}
 
 -- up to d digits, and then ts
 abbrev pub After : ℕ → Bool → List Slot → Bytes → Type 0
-After d e ts r = (ds : Bytes) × (fs : List Bytes) × (r ≡ ds ++ row fs) × Digits ds × (length ds ≤ d) × Fits e ts fs
+After d e ts r = (ds : Bytes) × (fs : List Bytes) × (r ≡ ds ++ spaced fs) × Digits ds × (length ds ≤ d) × Fits e ts fs
 
 pub head_same : {a b : ℕ} {x y : Bytes} → ◌≡◌ {A = Bytes} (a ∷ x) (b ∷ y) → a ≡ b
 head_same p = cc
@@ -25,7 +25,7 @@ digit_moved p h = subst Digit p h
 pub after_digit_in : (d : ℕ) (e : Bool) (ts : List Slot) (b : ℕ) (r : Bytes) → Digit b → After (suc d) e ts (b ∷ r) → After d e ts r
 after_digit_in d e ts b r dg a = go a.0 a.1 a.2 a.3 a.4 a.5
   where
-    go : (ds : Bytes) (fs : List Bytes) → (b ∷ r) ≡ ds ++ row fs → Digits ds → length ds ≤ suc d → Fits e ts fs → After d e ts r
+    go : (ds : Bytes) (fs : List Bytes) → (b ∷ r) ≡ ds ++ spaced fs → Digits ds → length ds ≤ suc d → Fits e ts fs → After d e ts r
     go [] [] p h l f = absurd (not_nil p)
     go [] (x ∷ fs) p h l f = let q = head_same p in absurd (omega arith)
     go (x ∷ ds) fs p h l f = (ds, fs, tail_same p, h.1, omega arith, f)
@@ -36,7 +36,7 @@ after_digit_out d e ts b r dg a = (b ∷ a.0, a.1, ap (λ (x : Bytes). b ∷ x) 
 pub after_blank_in : (d : ℕ) (e : Bool) (ts : List Slot) (r : Bytes) → After d e ts (32 ∷ r) → Next ts r
 after_blank_in d e ts r a = go ts a.0 a.1 a.2 a.3 a.5
   where
-    go : (us : List Slot) (ds : Bytes) (fs : List Bytes) → (32 ∷ r) ≡ ds ++ row fs → Digits ds → Fits e us fs → Next us r
+    go : (us : List Slot) (ds : Bytes) (fs : List Bytes) → (32 ∷ r) ≡ ds ++ spaced fs → Digits ds → Fits e us fs → Next us r
     go us [] [] p h f = absurd (not_nil p)
     go [] [] (x ∷ fs) p h f = f
     go (t ∷ us) [] (x ∷ fs) p h f = (x, fs, tail_same p, f.0, f.1)
@@ -49,7 +49,7 @@ after_blank_out d e (t ∷ ts) r n = ([], n.0 ∷ n.1, ap (λ (x : Bytes). 32 �
 pub after_other : (d : ℕ) (e : Bool) (ts : List Slot) (b : ℕ) (r : Bytes) → (b ≡ 32 → ⊥) → (Digit b → d ≡ 0) → After d e ts (b ∷ r) → ⊥
 after_other d e ts b r no_blank full a = go a.0 a.1 a.2 a.3 a.4
   where
-    go : (ds : Bytes) (fs : List Bytes) → (b ∷ r) ≡ ds ++ row fs → Digits ds → length ds ≤ d → ⊥
+    go : (ds : Bytes) (fs : List Bytes) → (b ∷ r) ≡ ds ++ spaced fs → Digits ds → length ds ≤ d → ⊥
     go [] [] p h l = not_nil p
     go [] (x ∷ fs) p h l = no_blank (head_same p)
     go (x ∷ ds) fs p h l = let z = full (digit_moved (sym (head_same p)) h.0) in omega arith
@@ -57,7 +57,7 @@ after_other d e ts b r no_blank full a = go a.0 a.1 a.2 a.3 a.4
 pub after_end_in : (d : ℕ) (e : Bool) (ts : List Slot) → After d e ts [] → e ≡ true
 after_end_in d e ts a = go ts a.0 a.1 a.2 a.5
   where
-    go : (us : List Slot) (ds : Bytes) (fs : List Bytes) → [] ≡ ds ++ row fs → Fits e us fs → e ≡ true
+    go : (us : List Slot) (ds : Bytes) (fs : List Bytes) → [] ≡ ds ++ spaced fs → Fits e us fs → e ≡ true
     go us [] [] p f = f
     go us [] (x ∷ fs) p f = absurd (not_nil (sym p))
     go us (x ∷ ds) fs p f = absurd (not_nil (sym p))
@@ -67,9 +67,9 @@ after_end_out d e ts h = ([], [], refl, tt, omega arith, h)
 
 -- after a blank: the field's first byte
 pub head_minus_in : (e : Bool) (ts : List Slot) (r : Bytes) → Next ((Coefficient, e) ∷ ts) (45 ∷ r) → Next ((Number, e) ∷ ts) r
-head_minus_in e ts r n = ⊎_elim (λ h. absurd (go n.0 n.2 h)) (λ h. (h.0, n.1, tail_same (n.2 ∙ ap (λ (x : Bytes). x ++ row n.1) h.1), h.2, n.4)) n.3
+head_minus_in e ts r n = ⊎_elim (λ h. absurd (go n.0 n.2 h)) (λ h. (h.0, n.1, tail_same (n.2 ∙ ap (λ (x : Bytes). x ++ spaced n.1) h.1), h.2, n.4)) n.3
   where
-    go : (f : Bytes) → (45 ∷ r) ≡ f ++ row n.1 → Plain f → ⊥
+    go : (f : Bytes) → (45 ∷ r) ≡ f ++ spaced n.1 → Plain f → ⊥
     go [] p h = let l = h.some in omega arith
     go (x ∷ f) p h = let q = head_same p in let g = h.digits.0 in omega arith
 
@@ -92,7 +92,7 @@ never_empty Coefficient h = ⊎_elim (λ p. let l = p.some in omega arith) (λ s
 pub head_digit_in : (k : Kind) (e : Bool) (ts : List Slot) (b : ℕ) (r : Bytes) → Digit b → Next ((k, e) ∷ ts) (b ∷ r) → After 6 e ts r
 head_digit_in k e ts b r dg n = go n.0 n.2 n.3
   where
-    go : (f : Bytes) → (b ∷ r) ≡ f ++ row n.1 → Text k f → After 6 e ts r
+    go : (f : Bytes) → (b ∷ r) ≡ f ++ spaced n.1 → Text k f → After 6 e ts r
     go [] p h = absurd (never_empty k h)
     go (x ∷ f) p h =
         let plain = unsigned k x f (digit_moved (head_same p) dg) h in
@@ -110,7 +110,7 @@ head_other k e ts b r no_digit no_sign n = go k no_sign n.0 n.2 n.3
     plain_not : (x : ℕ) (f : Bytes) → b ≡ x → Plain (x ∷ f) → ⊥
     plain_not x f p h = no_digit (digit_moved (sym p) h.digits.0)
 
-    go : (j : Kind) → (b ≡ 45 → j ≡ Number) → (f : Bytes) → (b ∷ r) ≡ f ++ row n.1 → Text j f → ⊥
+    go : (j : Kind) → (b ≡ 45 → j ≡ Number) → (f : Bytes) → (b ∷ r) ≡ f ++ spaced n.1 → Text j f → ⊥
     go j sign [] p h = never_empty j h
     go Number sign (x ∷ f) p h = plain_not x f (head_same p) h
     go Coefficient sign (x ∷ f) p h =
@@ -119,7 +119,7 @@ head_other k e ts b r no_digit no_sign n = go k no_sign n.0 n.2 n.3
 pub head_end : (k : Kind) (e : Bool) (ts : List Slot) → Next ((k, e) ∷ ts) [] → ⊥
 head_end k e ts n = go n.0 n.2 n.3
   where
-    go : (f : Bytes) → [] ≡ f ++ row n.1 → Text k f → ⊥
+    go : (f : Bytes) → [] ≡ f ++ spaced n.1 → Text k f → ⊥
     go [] p h = never_empty k h
     go (x ∷ f) p h = not_nil (sym p)
 
@@ -127,6 +127,6 @@ head_end k e ts n = go n.0 n.2 n.3
 pub fill_more : (k : Kind) (e : Bool) (ts : List Slot) → Fillable e ts → Fillable false ((k, e) ∷ ts)
 fill_more k e ts fill = ((48 ∷ []) ∷ fill.0, (signed_too k (48 ∷ []) (record { digits = ((omega arith, omega arith), tt); some = omega arith; short = omega arith }), fill.1))
 
-pub fill_marked : (ks : List Kind) (ts : List Slot) → Fillable (none ks) (marked ks ts)
+pub fill_marked : (ks : List Kind) (ts : List Slot) → Fillable (no_kinds ks) (marked ks ts)
 fill_marked [] ts = ([], refl)
-fill_marked (k ∷ ks) ts = fill_more k (none ks) (marked ks ts) (fill_marked ks ts)
+fill_marked (k ∷ ks) ts = fill_more k (no_kinds ks) (marked ks ts) (fill_marked ks ts)

@@ -1,14 +1,17 @@
 -- What the reader says of a line, and what its fields are.
-use Rattle.std.specs.Prelude.{◌≡◌, ℕ, ◌+◌, ◌<◌, ◌≤◌, List, [], ◌∷◌, length, drop, min, ℤ, pos, neg_ℤ, IfSome, Option, MatchOption, ◌≢◌, slice_index, slice_index_or}
+use Rattle.std.specs.Prelude.{◌≡◌, ℕ, ◌+◌, ◌<◌, ◌≤◌, List, [], ◌∷◌, length, drop, min, ℤ, pos, neg_ℤ, IfSome, Option, MatchOption, Result, MatchResult, ◌≢◌, slice_index, slice_index_or}
 use Rattle.std.specs.List.{between}
+use Rattle.text.specs.declared.line.Fault.{Fault}
 use Rattle.text.specs.declared.line.Field.{Field}
 use Rattle.text.specs.declared.line.Field.TheVariants.{Unsigned, Negative}
 use Rattle.text.specs.declared.line.Fields.{Fields}
 use Rattle.text.specs.declared.line.Line.{Line}
 use Rattle.text.specs.declared.line.Line.TheVariants.{Node, Variables, Branch, Earth, Law, Repeat, Comment, Empty}
 use Rattle.text.specs.declared.line.TextLine.{TextLine}
-use Rattle.text.specs.Grammar.{Bytes, row}
-use Rattle.text.specs.Decimal.{decimal}
+use Rattle.text.specs.Grammar.{Bytes, Allowed, spaced}
+use Rattle.text.specs.Faults.{FaultAt}
+use Rattle.text.specs.Decimal.{value_of_digits}
+use Rattle.text.specs.Limits.{largest_number}
 
 -- the line begins with c, and fs is what follows it
 pub record Led (c : ℕ) (line : TextLine) (fs : Fields) : Type 0 where
@@ -28,19 +31,31 @@ Says line (Repeat fs) = Led 67 line fs
 Says line (Comment text n) = (line.bytes.now ≡ 35 ∷ text.now) × (n ≡ line.number)
 Says line (Empty n) = (line.bytes.now ≡ []) × (n ≡ line.number)
 
+-- the line is allowed, and v is its case; or it goes wrong at this column
+abbrev pub ReadsLine : TextLine → Result Line Fault → Type 0
+ReadsLine line r =
+    MatchResult r (λ v. Allowed line.bytes.now × Says line v) (λ f. FaultAt Allowed line.bytes.now f.column)
+
+-- the line is allowed, and fs is what follows its letter; or it goes wrong at this column
+abbrev pub ReadsFields : TextLine → Result Fields Fault → Type 0
+ReadsFields line r =
+    MatchResult r
+    (λ fs. Allowed line.bytes.now × Led (slice_index line.bytes.now 0) line fs)
+    (λ f. FaultAt Allowed line.bytes.now f.column)
+
 abbrev pub digits_of : Field → Bytes
 digits_of (Unsigned digits n column) = digits.now
 digits_of (Negative digits n column) = digits.now
 
 -- the number that the field writes, with its sign
 abbrev pub value_of : Field → ℤ
-value_of (Unsigned digits n column) = pos (decimal digits.now)
-value_of (Negative digits n column) = neg_ℤ (pos (decimal digits.now))
+value_of (Unsigned digits n column) = pos (value_of_digits digits.now)
+value_of (Negative digits n column) = neg_ℤ (pos (value_of_digits digits.now))
 
--- the same, where no number counts as more than 2^31 - 1
+-- the same, where no number counts as more than the largest
 abbrev pub capped_value_of : Field → ℤ
-capped_value_of (Unsigned digits n column) = pos (min (decimal digits.now) 2147483647)
-capped_value_of (Negative digits n column) = neg_ℤ (pos (min (decimal digits.now) 2147483647))
+capped_value_of (Unsigned digits n column) = pos (min (value_of_digits digits.now) largest_number)
+capped_value_of (Negative digits n column) = neg_ℤ (pos (min (value_of_digits digits.now) largest_number))
 
 -- the field is written as g: only a field with a minus in front is negative
 abbrev pub Spells : Field → Bytes → Type 0
@@ -76,8 +91,8 @@ Takes s r t =
 -- where fields stand in a row, the first is taken, and the others are left
 abbrev pub TakesFirst : Fields → Option Field → Fields → Type 0
 TakesFirst s r t =
-    (g : Bytes) (gs : List Bytes) → rest_of s ≡ row (g ∷ gs) → Unbroken g
-    → MatchOption r ⊥ (λ f. Spells f g × (rest_of t ≡ row gs))
+    (g : Bytes) (gs : List Bytes) → rest_of s ≡ spaced (g ∷ gs) → Unbroken g
+    → MatchOption r ⊥ (λ f. Spells f g × (rest_of t ≡ spaced gs))
 
 -- where nothing is left, none is taken
 abbrev pub TakesNone : Fields → Option Field → Type 0

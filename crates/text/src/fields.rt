@@ -1,7 +1,8 @@
 //! Reading the fields of a line one by one, and their values.
 ghost use Rattle.std.specs.Prelude.{min, ◌≡◌, ◌-◌, ◌^◌, ◌<◌, ◌≤◌, length};
 ghost use Rattle.std.specs.Iterator.{at_most};
-ghost use Rattle.text.specs.Decimal.{decimal};
+ghost use Rattle.text.specs.Decimal.{value_of_digits};
+ghost use Rattle.text.specs.Limits.{largest_number, most_digits};
 ghost use Rattle.text.specs.Reading.{FieldStep, Spells, Stands, digits_of, capped_value_of, value_of};
 
 use super::line::{Field, Fields};
@@ -32,8 +33,8 @@ impl Field<'_> {
     /// write counts as 2^31 - 1 at most.
     pub fn number(&self) -> u32
         ensures bound { result < 2 ^ 31 }
-        ensures capped { result ≡ min (decimal (digits_of self.now)) 2147483647 }
-        ensures exact { length (digits_of self.now) ≤ 7 → result ≡ decimal (digits_of self.now) }
+        ensures capped { result ≡ min (value_of_digits (digits_of self.now)) largest_number }
+        ensures exact { length (digits_of self.now) ≤ most_digits → result ≡ value_of_digits (digits_of self.now) }
     {
         match self {
             Field::Unsigned { digits, .. } | Field::Negative { digits, .. } => value(digits),
@@ -43,7 +44,7 @@ impl Field<'_> {
     /// The same with its sign.
     pub fn coefficient(&self) -> i32
         ensures capped { result ≡ capped_value_of self.now }
-        ensures exact { length (digits_of self.now) ≤ 7 → result ≡ value_of self.now }
+        ensures exact { length (digits_of self.now) ≤ most_digits → result ≡ value_of self.now }
     {
         match self {
             Field::Unsigned { .. } => self.number() as i32,
@@ -76,8 +77,8 @@ const MOST: u32 = i32::MAX as u32;
 // The number that at most seven digits write; what more digits write counts as `MOST` at most.
 fn value(digits: &[u8]) -> u32
     ensures bound { result < 2 ^ 31 }
-    ensures capped { result ≡ min (decimal digits.now) 2147483647 }
-    ensures exact { length digits.now ≤ 7 → result ≡ decimal digits.now }
+    ensures capped { result ≡ min (value_of_digits digits.now) largest_number }
+    ensures exact { length digits.now ≤ most_digits → result ≡ value_of_digits digits.now }
 {
     digits.iter().fold(0u32, |sum, b| {
         sum.saturating_mul(10)

@@ -1,10 +1,14 @@
 //! What follows the letter of a line.
 ghost use Rattle.std.specs.Prelude.{◌≤◌, length};
 
+use netlist::limits::MOST_TERMS;
+
 /// What a field holds: only a coefficient may have a minus in front.
 #[derive(Clone, Copy)]
 pub enum Kind {
+    /// One to seven digits.
     Number,
+    /// The same, or a minus and the same.
     Coefficient,
 }
 
@@ -15,9 +19,6 @@ pub(crate) struct Shape {
     pub(crate) most: usize,
     ghost some: { (1 ≤ length kinds.now) × (1 ≤ most) },
 }
-
-// The most terms of a law. `netlist` says it for what is drawn; this crate rests on no other.
-const MOST_TERMS: usize = 8;
 
 // Of a node and of variables.
 pub(crate) const VALUE: Shape = Shape {

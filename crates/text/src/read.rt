@@ -1,8 +1,7 @@
 //! Reading a line: its case, or where it goes wrong.
-ghost use Rattle.std.specs.Prelude.{◌≡◌, ◌≤◌, length, MatchResult, slice_index};
-ghost use Rattle.text.specs.Grammar.{Allowed, form, groups};
-ghost use Rattle.text.specs.Faults.{FaultAt};
-ghost use Rattle.text.specs.Reading.{Led, Says};
+ghost use Rattle.std.specs.Prelude.{◌≡◌, ◌≤◌, length, slice_index};
+ghost use Rattle.text.specs.Grammar.{form, groups};
+ghost use Rattle.text.specs.Reading.{ReadsFields, ReadsLine};
 
 use super::kinds::{BRANCH, EARTH, LAW, REPEAT, Shape, VALUE};
 use super::line::{Fault, Fields, Line, TextLine};
@@ -12,7 +11,7 @@ use super::scan::scan;
 fn fields_of<'a>(line: TextLine<'a>, shape: Shape) -> Result<Fields<'a>, Fault>
     requires some { 1 ≤ length line.bytes.now }
     requires form { form (slice_index line.bytes.now 0) ≡ groups shape.kinds.now shape.most }
-    ensures { MatchResult result (λ fs. Allowed line.entry.bytes.now × Led (slice_index line.entry.bytes.now 0) line.entry fs) (λ f. FaultAt Allowed line.entry.bytes.now f.column) }
+    ensures { ReadsFields line.entry result }
 {
     scan(line.bytes, shape)?;
     Ok(Fields {
@@ -24,7 +23,7 @@ fn fields_of<'a>(line: TextLine<'a>, shape: Shape) -> Result<Fields<'a>, Fault>
 
 /// The line by its letter, or where it goes wrong.
 pub fn read_line<'a>(line: TextLine<'a>) -> Result<Line<'a>, Fault>
-    ensures { MatchResult result (λ v. Allowed line.entry.bytes.now × Says line.entry v) (λ f. FaultAt Allowed line.entry.bytes.now f.column) }
+    ensures { ReadsLine line.entry result }
 {
     let [letter, rest @ ..] = line.bytes else {
         return Ok(Line::Empty { line: line.number });

@@ -1,8 +1,8 @@
 //! Skipping the fields of a line, up to the place where it goes wrong.
-ghost use Rattle.std.specs.Prelude.{◌≡◌, ◌+◌, ◌<◌, ◌≤◌, Bool, true, false, List, ◌∷◌, length, MatchResult, slice_index};
+ghost use Rattle.std.specs.Prelude.{◌≡◌, ◌+◌, ◌<◌, ◌≤◌, length, MatchResult, slice_index};
 ghost use Rattle.text.specs.Grammar.{Allowed, form, groups};
 ghost use Rattle.text.specs.Faults.{FaultAt};
-ghost use Rattle.text.specs.Scan.{Slot, marked, none, Fillable, Skips, ByteTaken, SignEnd, DigitRun};
+ghost use Rattle.text.specs.Scan.{Slot, Fillable, SkipsField, SkipsGroup, ByteTaken, SignEnd, DigitRun};
 
 use super::kinds::{Kind, Shape};
 use super::line::Fault;
@@ -64,7 +64,7 @@ impl Scanner<'_> {
     fn field(&mut self, kind: Kind) -> Result<(), Fault>
         ensures same { self.new.line.now ≡ self.old.line.now }
         ensures places { MatchResult result (λ _. self.old.at < self.new.at) (λ f. self.old.at < f.column) }
-        ensures skips { (e : Bool) (ts : List Slot) → Fillable e ts → Skips self.old.line.now self.old.at false ((kind, e) ∷ ts) e ts result self.new.at }
+        ensures skips { SkipsField kind self.old.line.now self.old.at result self.new.at }
     {
         if !self.take(b' ') {
             return Err(self.fault());
@@ -83,7 +83,7 @@ impl Scanner<'_> {
     fn group(&mut self, kinds: &[Kind]) -> Result<(), Fault>
         ensures same { self.new.line.now ≡ self.old.line.now }
         ensures places { MatchResult result (λ _. self.old.at ≤ self.new.at) (λ f. self.old.at < f.column) }
-        ensures skips { (ts : List Slot) → Skips self.old.line.now self.old.at (none kinds.now) (marked kinds.now ts) true ts result self.new.at }
+        ensures skips { SkipsGroup kinds.now self.old.line.now self.old.at result self.new.at }
     {
         for kind in kinds {
             self.field(*kind)?;

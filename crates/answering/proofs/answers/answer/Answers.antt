@@ -1,6 +1,6 @@
 use Rattle.std.proofs.Common.{◌≡◌, ℕ, length, List, [], sym, subst, ap, ◌∙◌, Ok}
 use Rattle.quantity.specs.declared.numbers.Whole.{Whole}
-use Rattle.readings_text.specs.Readings.{Answer, ReadsReadings}
+use Rattle.readings_text.specs.Readings.{ReadsReadings, ReadingsAnswer}
 use Rattle.answering.proofs.Fitting.{readings_fit}
 use Rattle.answering.proofs.answers.answer.Goals as goal
 

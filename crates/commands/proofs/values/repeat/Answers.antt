@@ -1,4 +1,4 @@
-use Rattle.commands.specs.Steps.{repeat_kinds}
+use Rattle.text.specs.Grammar.{repeat_kinds}
 use Rattle.commands.proofs.Readers.{left_all, number_at, coefficient_at}
 use Rattle.commands.proofs.Stepwise.{kept}
 use Rattle.commands.proofs.values.repeat.Goals as goal

@@ -1,6 +1,6 @@
 use Rattle.std.proofs.Common.{ℕ, ◌-◌, rules, subst, Err, Some, sym}
 use Rattle.readings_text.specs.declared.faults.ReadingsFault.TheVariants.{TooFew}
-use Rattle.readings_text.specs.Lines.{AtFault, Reads}
+use Rattle.readings_text.specs.Lines.{ReadingAtFault, ReadsReading}
 use Rattle.readings_text.specs.Readings.{ReadsReadings}
 use Rattle.readings_text.proofs.Gathering.{Kept, one_more, at_fault, too_few, enough}
 use Rattle.readings_text.proofs.reading.read_readings.Goals as goal
@@ -9,7 +9,7 @@ pub loop-line-preserved-in-Ok-Some : goal.loop-line-preserved-in-Ok-Some
 loop-line-preserved-in-Ok-Some c =
     let was = c.loop-line.invariant in
     let step = c.in-Some.ensures.steps in
-    let told : Reads c.loop-line.wanted c.in-Some.line.bytes.now (Some c.in-Ok-Some.reading) = subst (Reads c.loop-line.wanted c.in-Some.line.bytes.now) c.in-Ok-Some.field-0-is c.in-Ok-Some.ensures in
+    let told : ReadsReading c.loop-line.wanted c.in-Some.line.bytes.now (Some c.in-Ok-Some.reading) = subst (ReadsReading c.loop-line.wanted c.in-Some.line.bytes.now) c.in-Ok-Some.field-0-is c.in-Ok-Some.ensures in
     let more : Kept c.args.text.now c.args.variables c.args.values.now.items c.args.rates.now.items (c.loop-line.wanted - 1) c.next.new.self.taken c.next.new.self.rest.now c.push.new.self.items c.push-in-Ok-Some.new.self.items =
     one_more c.args.text.now c.args.variables c.args.values.now.items c.args.rates.now.items c.loop-line.wanted c.loop-line.line-iterator.taken c.next.new.self.taken _ _ _ c.in-Ok-Some.reading _ _ _ _ (was.0, was.1, was.2, was.4) step.listed step.count told.0 told.1 (search rules) (search rules) in
     (more.0, more.1, more.2, search rules, more.3)
@@ -18,7 +18,7 @@ pub returns-in-Err : goal.returns-in-Err
 returns-in-Err c =
     let was = c.loop-line.invariant in
     let step = c.in-Some.ensures.steps in
-    at_fault c.args.text.now c.args.variables c.args.values.now.items c.args.rates.now.items c.loop-line.wanted c.loop-line.line-iterator.taken _ _ _ c.in-Err.fault _ _ (was.0, was.1, was.2, was.4) step.listed (subst (λ (k : ℕ). AtFault c.loop-line.wanted k c.in-Some.line.bytes.now c.in-Err.fault) step.number c.in-Err.ensures)
+    at_fault c.args.text.now c.args.variables c.args.values.now.items c.args.rates.now.items c.loop-line.wanted c.loop-line.line-iterator.taken _ _ _ c.in-Err.fault _ _ (was.0, was.1, was.2, was.4) step.listed (subst (λ (k : ℕ). ReadingAtFault c.loop-line.wanted k c.in-Some.line.bytes.now c.in-Err.fault) step.number c.in-Err.ensures)
 
 pub returns-then-wanted-gt0 : goal.returns-then-wanted-gt0
 returns-then-wanted-gt0 c =

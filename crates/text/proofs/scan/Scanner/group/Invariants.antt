@@ -1,5 +1,5 @@
 use Rattle.std.proofs.Common.{◌≡◌, ◌≤◌, List, drop}
-use Rattle.text.specs.Scan.{Slot, none, marked, Gap}
+use Rattle.text.specs.Scan.{Slot, marked, Gap, no_kinds}
 use Rattle.text.proofs.scan.Scanner.group.Given as goal
 
 abbrev pub invariant-loop-kind : goal.invariant-loop-kind
@@ -8,5 +8,5 @@ invariant-loop-kind l =
     record {
       same : l.self.line.now ≡ start.line.now;
       on : start.at ≤ l.self.at;
-      gap : (all ts : List Slot) → Gap all start.line.now start.at (none l.kinds) (marked l.kinds ts) → Gap all start.line.now l.self.at (none (drop l.kind-index l.kinds)) (marked (drop l.kind-index l.kinds) ts);
+      gap : (all ts : List Slot) → Gap all start.line.now start.at (no_kinds l.kinds) (marked l.kinds ts) → Gap all start.line.now l.self.at (no_kinds (drop l.kind-index l.kinds)) (marked (drop l.kind-index l.kinds) ts);
     }
