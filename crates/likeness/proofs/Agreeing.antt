@@ -8,21 +8,22 @@ use Rattle.netlist.specs.Netlist.{Netlist}
 use Rattle.netlist.specs.Rows.{across_of}
 use Rattle.likeness.specs.Alike.{nodes_of, nodes_in, Alike}
 use Rattle.netlist.specs.Renaming.{renamed_row, renamed_law}
+use Rattle.network.specs.Readings.{Readings}
 use Rattle.network.specs.ReadingsAgree.{ReadingsAgree}
 use Rattle.network.specs.Flows.{SetsKeep}
 use Rattle.network.specs.Laws.{law_sum, LawsHold}
 use Rattle.network.specs.Walks.{WalksClose, read, no_row, row_at, tail_of, head_of, network_of}
-use Rattle.likeness.specs.Agreeing.{ReadAlike, PlantsAgree, PartsAgree}
+use Rattle.likeness.specs.Agreeing.{ListedAlike, ReadAlike, PlantsAgree, PartsAgree}
 use Rattle.likeness.proofs.Listing.{all_at, all_weaker, all_both, all_of_flat, place_of}
 use Rattle.likeness.proofs.Renaming.{of_row, of_law, vertex, tail_renamed, head_renamed, across_renamed}
 use Rattle.likeness.proofs.Occurring.{by_rows, by_laws}
 use Rattle.likeness.proofs.Turning.{alike_back, read_back}
 use Rattle.likeness.proofs.Summing.{Kept, law_sum_renamed, out_renamed, flow_renamed, flow_reordered}
-use Rattle.likeness.proofs.Carrying.{Carried, balance_carried}
+use Rattle.likeness.proofs.Carrying.{Carried, closing_carried}
 
 -- Of two netlists that are alike, what holds of the second holds of the first.
 module _ {G : Type 0} (𝓖 : Group G) (b c : Netlist) (s : Alike b c) where
-  module _ (values values' : List G) (vs : ReadAlike 𝓖 b s.there values values') where
+  module _ (values values' : List G) (vs : ListedAlike 𝓖 b s.there values values') where
     row_kept : AllByRecursion (λ row. AllByRecursion (Kept 𝓖 s.there values values') (of_row row)) b.rows
     row_kept = by_rows b (Kept 𝓖 s.there values values') vs
 
@@ -49,38 +50,40 @@ module _ {G : Type 0} (𝓖 : Group G) (b c : Netlist) (s : Alike b c) where
         )
 
     walks_back : WalksClose 𝓖 (network_of 𝓖 c.rows values') (length c.rows) → WalksClose 𝓖 (network_of 𝓖 b.rows values) (length b.rows)
-    walks_back = balance_carried 𝓖 _ _ _ _ (vertex s.there.node) carried
+    walks_back = closing_carried 𝓖 _ _ _ _ (vertex s.there.node) carried
 
-  module _ (values rates values' rates' : List G) (vs : ReadAlike 𝓖 b s.there values values') (rs : ReadAlike 𝓖 b s.there rates rates') where
-    laws_back : LawsHold 𝓖 c.laws values' rates' (length c.laws) → LawsHold 𝓖 b.laws values rates (length b.laws)
+  module _ (r r' : Readings G) (h : ReadAlike 𝓖 b s.there r r') where
+    laws_back : LawsHold 𝓖 c.laws r' (length c.laws) → LawsHold 𝓖 b.laws r (length b.laws)
     laws_back hold k l =
         let place = place_of (renamed_law s.there) b.laws c.laws s.laws k [] l in
-        sym (law_sum_renamed 𝓖 s.there values rates values' rates' (get_or b.laws k []) (law_kept values values' vs k l) (law_kept rates rates' rs k l))
-        ∙ ap (λ (law : List Term). law_sum 𝓖 law values' rates') (sym place.2)
+        sym (law_sum_renamed 𝓖 s.there r r' (get_or b.laws k []) (law_kept r.values r'.values h.values k l) (law_kept r.rates r'.rates h.rates k l))
+        ∙ ap (λ (law : List Term). law_sum 𝓖 law r') (sym place.2)
         ∙ hold place.0 place.1
 
-    balances_back : ReadingsAgree 𝓖 c values' rates' → ReadingsAgree 𝓖 b values rates
-    balances_back h = record {
-      laws = laws_back h.laws;
-      sets = sets_back values values' vs h.sets;
-      walks = walks_back values values' vs h.walks;
+    agree_back : ReadingsAgree 𝓖 c r' → ReadingsAgree 𝓖 b r
+    agree_back agree = record {
+      laws = laws_back agree.laws;
+      sets = sets_back r.values r'.values h.values agree.sets;
+      walks = walks_back r.values r'.values h.values agree.walks;
     }
 
 module _ {G : Type 0} (𝓖 : Group G) where
+  -- the readings the other way, under the numbers that lead back
+  turned : (b c : Netlist) (s : Alike b c) (r r' : Readings G) → ReadAlike 𝓖 b s.there r r' → ReadAlike 𝓖 c (alike_back b c s).0.there r' r
+  turned b c s r r' h = subst (λ to. ReadAlike 𝓖 c to r' r) (sym (alike_back b c s).1) (read_back 𝓖 b c s r r' h)
+
   pub plants_agree : PlantsAgree 𝓖
-  plants_agree b c s values rates values' rates' vs rs =
-      let t = alike_back b c s in
-      let turned = λ (old new : List G) (h : ReadAlike 𝓖 b s.there old new). subst (λ to. ReadAlike 𝓖 c to new old) (sym t.1) (read_back 𝓖 b c s old new h) in (
-        balances_back 𝓖 c b t.0 values' rates' values rates (turned values values' vs) (turned rates rates' rs),
-        balances_back 𝓖 b c s values rates values' rates' vs rs,
-      )
+  plants_agree b c s r r' h = (
+    agree_back 𝓖 c b (alike_back b c s).0 r' r (turned b c s r r' h),
+    agree_back 𝓖 b c s r r' h,
+  )
 
   pub parts_agree : PartsAgree 𝓖
-  parts_agree b c s values rates values' rates' vs rs =
-      let t = alike_back b c s in
-      let turned = λ (old new : List G) (h : ReadAlike 𝓖 b s.there old new). subst (λ to. ReadAlike 𝓖 c to new old) (sym t.1) (read_back 𝓖 b c s old new h) in
+  parts_agree b c s r r' h =
+      let t = (alike_back b c s).0 in
+      let k = turned b c s r r' h in
       record {
-        laws = (laws_back 𝓖 c b t.0 values' rates' values rates (turned values values' vs) (turned rates rates' rs), laws_back 𝓖 b c s values rates values' rates' vs rs);
-        sets = (sets_back 𝓖 c b t.0 values' values (turned values values' vs), sets_back 𝓖 b c s values values' vs);
-        walks = (walks_back 𝓖 c b t.0 values' values (turned values values' vs), walks_back 𝓖 b c s values values' vs);
+        laws = (laws_back 𝓖 c b t r' r k, laws_back 𝓖 b c s r r' h);
+        sets = (sets_back 𝓖 c b t r'.values r.values k.values, sets_back 𝓖 b c s r.values r'.values h.values);
+        walks = (walks_back 𝓖 c b t r'.values r.values k.values, walks_back 𝓖 b c s r.values r'.values h.values);
       }

@@ -16,6 +16,7 @@ use Rattle.likeness.specs.Alike.{nodes_of}
 use Rattle.netlist.specs.Renaming.{Renaming, renamed_row, renamed_law}
 use Rattle.network.specs.Flows.{leaves, net_flow}
 use Rattle.network.specs.Laws.{of_order, law_sum}
+use Rattle.network.specs.Readings.{Readings}
 use Rattle.network.specs.Walks.{read}
 use Rattle.likeness.proofs.Renaming.{of_row, of_law}
 
@@ -23,12 +24,12 @@ use Rattle.likeness.proofs.Renaming.{of_row, of_law}
 abbrev pub Kept : {G : Type 0} → Group G → Renaming → List G → List G → ℕ → Type 0
 Kept 𝓖 to old new v = read 𝓖 new (to.variable v) ≡ read 𝓖 old v
 
-module _ {G : Type 0} (𝓖 : Group G) (to : Renaming) (values rates values' rates' : List G) where
-  term_renamed : (o : Order) (v : ℕ) → Kept 𝓖 to values values' v → Kept 𝓖 to rates rates' v → read 𝓖 (of_order o values' rates') (to.variable v) ≡ read 𝓖 (of_order o values rates) v
+module _ {G : Type 0} (𝓖 : Group G) (to : Renaming) (r r' : Readings G) where
+  term_renamed : (o : Order) (v : ℕ) → Kept 𝓖 to r.values r'.values v → Kept 𝓖 to r.rates r'.rates v → read 𝓖 (of_order o r') (to.variable v) ≡ read 𝓖 (of_order o r) v
   term_renamed Value v p q = p
   term_renamed Rate v p q = q
 
-  pub law_sum_renamed : (law : List Term) → AllByRecursion (Kept 𝓖 to values values') (of_law law) → AllByRecursion (Kept 𝓖 to rates rates') (of_law law) → law_sum 𝓖 (renamed_law to law) values' rates' ≡ law_sum 𝓖 law values rates
+  pub law_sum_renamed : (law : List Term) → AllByRecursion (Kept 𝓖 to r.values r'.values) (of_law law) → AllByRecursion (Kept 𝓖 to r.rates r'.rates) (of_law law) → law_sum 𝓖 (renamed_law to law) r' ≡ law_sum 𝓖 law r
   law_sum_renamed [] p q = refl
   law_sum_renamed (t ∷ law) p q = ap₂ 𝓖.sum (ap (𝓖.multiple t.coefficient) (term_renamed t.order t.variable p.0 q.0)) (law_sum_renamed law p.1 q.1)
 

@@ -1,13 +1,14 @@
 -- Netlists that are alike, and readings of them: themselves, the other way, and on to a third.
-use Rattle.std.proofs.Common.{◌≡◌, refl, sym, ap, ◌∙◌, subst}
+use Rattle.std.proofs.Common.{◌≡◌, List, refl, sym, ap, ◌∙◌, subst}
 use Rattle.std.specs.List.Sorted.{IsPermutation}
 use Rattle.std.proofs.lemmas.List.{map-id}
 use Rattle.std.proofs.lemmas.List.Sorted.{IsPermutation-refl}
 use Rattle.quantity.specs.Group.{Group}
-use Rattle.likeness.specs.Alike.{nodes_of, nodes_in, variables_in}
+use Rattle.likeness.specs.Alike.{nodes_of, nodes_in, variables_in, Alike}
+use Rattle.netlist.specs.Netlist.{Netlist}
 use Rattle.netlist.specs.Renaming.{renamed_row, renamed_law}
 use Rattle.network.specs.Walks.{read}
-use Rattle.likeness.specs.Agreeing.{ReadItself, ReadBack, ReadOnward}
+use Rattle.likeness.specs.Agreeing.{ListedAlike, ReadItself, ReadBack, ReadOnward}
 use Rattle.likeness.specs.Turning.{unchanged, onward, AlikeItself, AlikeBack, AlikeOnward}
 use Rattle.likeness.proofs.Listing.{all_from, all_weaker, all_both, all_of_flat, map_same, order_back, order_onward}
 use Rattle.likeness.proofs.Renaming.{row_unchanged, row_undone, row_onward, law_undone, law_onward}
@@ -56,15 +57,30 @@ alike_onward b c d s t = (
 )
 
 module _ {G : Type 0} (𝓖 : Group G) where
-  pub read_itself : ReadItself 𝓖
-  read_itself b readings = all_from _ (λ v. refl) (variables_in b)
-
-  pub read_back : ReadBack 𝓖
-  read_back b c s old new h =
+  list_back : (b c : Netlist) (s : Alike b c) (old new : List G) → ListedAlike 𝓖 b s.there old new → ListedAlike 𝓖 c s.back new old
+  list_back b c s old new h =
       variables_forth b c s (λ v. read 𝓖 old (s.back.variable v) ≡ read 𝓖 new v)
       (all_both _ _ _ (λ v e f. ap (read 𝓖 old) e ∙ sym f) (variables_in b) s.variables h)
 
-  pub read_onward : ReadOnward 𝓖
-  read_onward b c d s t old new newer h k =
+  list_onward : (b c d : Netlist) (s : Alike b c) (t : Alike c d) (old new newer : List G) → ListedAlike 𝓖 b s.there old new → ListedAlike 𝓖 c t.there new newer → ListedAlike 𝓖 b (onward s.there t.there) old newer
+  list_onward b c d s t old new newer h k =
       all_both _ _ _ (λ v e f. f ∙ e) (variables_in b) h
       (variables_back b c s (λ v. read 𝓖 newer (t.there.variable v) ≡ read 𝓖 new v) k)
+
+  pub read_itself : ReadItself 𝓖
+  read_itself b r = record {
+    values = all_from _ (λ v. refl) (variables_in b);
+    rates = all_from _ (λ v. refl) (variables_in b);
+  }
+
+  pub read_back : ReadBack 𝓖
+  read_back b c s r r' h = record {
+    values = list_back b c s r.values r'.values h.values;
+    rates = list_back b c s r.rates r'.rates h.rates;
+  }
+
+  pub read_onward : ReadOnward 𝓖
+  read_onward b c d s t r r' r'' h k = record {
+    values = list_onward b c d s t r.values r'.values r''.values h.values k.values;
+    rates = list_onward b c d s t r.rates r'.rates r''.rates h.rates k.rates;
+  }

@@ -4,7 +4,6 @@ use Rattle.std.specs.List.{AllByRecursion, flat_map}
 use Rattle.std.specs.List.Sorted.{IsPermutation}
 use Rattle.netlist.specs.declared.rows.Row.{Row}
 use Rattle.netlist.specs.declared.rows.Row.TheVariants.{Branch, Earth}
-use Rattle.netlist.specs.declared.terms.Term.{Term}
 use Rattle.netlist.specs.Netlist.{Netlist}
 use Rattle.netlist.specs.Renaming.{Renaming, renamed_row, renamed_law}
 use Rattle.netlist.specs.Rows.{flow_of, across_of}
@@ -19,7 +18,8 @@ abbrev pub nodes_in : Netlist → List ℕ
 nodes_in b = flat_map nodes_of b.rows
 
 abbrev pub variables_in : Netlist → List ℕ
-variables_in b = flat_map (λ row. flow_of row ∷ across_of row ∷ []) b.rows ++ flat_map (λ law. map (λ t. t.variable) law) b.laws
+variables_in b =
+    flat_map (λ row. flow_of row ∷ across_of row ∷ []) b.rows ++ flat_map (λ law. map (λ t. t.variable) law) b.laws
 
 -- the second numbering undoes the first on each of these
 abbrev pub Undone : (ℕ → ℕ) → (ℕ → ℕ) → List ℕ → Type 0

@@ -10,7 +10,8 @@ unchanged = record { node = λ n. n; variable = λ v. v }
 
 -- one renaming after another
 abbrev pub onward : Renaming → Renaming → Renaming
-onward to further = record { node = λ n. further.node (to.node n); variable = λ v. further.variable (to.variable v) }
+onward to further =
+    record { node = λ n. further.node (to.node n); variable = λ v. further.variable (to.variable v) }
 
 -- THEOREM: each netlist is alike itself
 abbrev pub AlikeItself : Type 0
@@ -23,4 +24,6 @@ AlikeBack = (b c : Netlist) (s : Alike b c) → (t : Alike c b) × (t.there ≡ 
 -- THEOREM: of three netlists, if the first is alike the second and that alike the third, the first is alike the third,
 -- by one renaming after the other
 abbrev pub AlikeOnward : Type 0
-AlikeOnward = (b c d : Netlist) (s : Alike b c) (t : Alike c d) → (u : Alike b d) × (u.there ≡ onward s.there t.there) × (u.back ≡ onward t.back s.back)
+AlikeOnward =
+    (b c d : Netlist) (s : Alike b c) (t : Alike c d)
+    → (u : Alike b d) × (u.there ≡ onward s.there t.there) × (u.back ≡ onward t.back s.back)

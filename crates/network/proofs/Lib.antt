@@ -3,3 +3,5 @@ pub mod Reaching
 pub mod Settling
 pub mod Folding
 pub mod Flowing
+pub mod First
+pub mod Refuting

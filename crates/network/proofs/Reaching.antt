@@ -1,7 +1,7 @@
 -- Walks put together, turned round and followed.
 use Rattle.std.proofs.Common.{◌≡◌, ℕ, ◌<◌, ◌≤◌, List, [], ◌∷◌, ◌++◌, sym, refl, ap, ◌∙◌, subst, ap₂, arith}
 use Rattle.quantity.specs.Group.{Group}
-use Rattle.network.specs.Walks.{Network, Within, Step, forward, backward, Walk, total}
+use Rattle.network.specs.Walks.{Network, Within, Step, forward, backward, Walk, walk_sum}
 use Rattle.network.specs.Settled.{Reaches}
 use Rattle.quantity.proofs.Groups.{right, negation_zero, negation_sum, negation_negation}
 
@@ -39,28 +39,28 @@ module _ {G : Type 0} (R : Network G) where
   walk_within n k within a b (backward j ∷ s) l w = walk_within n k within (R.tail j) b s (within j w.0).0 w.2
 
 module _ {G : Type 0} (𝓖 : Group G) (R : Network G) where
-  pub total_append : (s t : List Step) → total 𝓖 R (s ++ t) ≡ 𝓖.sum (total 𝓖 R s) (total 𝓖 R t)
-  total_append [] t = sym (𝓖.neutral _)
-  total_append (forward j ∷ s) t = ap (𝓖.sum (R.reading j)) (total_append s t) ∙ sym (𝓖.associative _ _ _)
-  total_append (backward j ∷ s) t = ap (𝓖.sum (𝓖.negation (R.reading j))) (total_append s t) ∙ sym (𝓖.associative _ _ _)
+  pub sum_append : (s t : List Step) → walk_sum 𝓖 R (s ++ t) ≡ 𝓖.sum (walk_sum 𝓖 R s) (walk_sum 𝓖 R t)
+  sum_append [] t = sym (𝓖.neutral _)
+  sum_append (forward j ∷ s) t = ap (𝓖.sum (R.reading j)) (sum_append s t) ∙ sym (𝓖.associative _ _ _)
+  sum_append (backward j ∷ s) t = ap (𝓖.sum (𝓖.negation (R.reading j))) (sum_append s t) ∙ sym (𝓖.associative _ _ _)
 
-  total_back : (s : List Step) → total 𝓖 R (back s) ≡ 𝓖.negation (total 𝓖 R s)
-  total_back [] = sym (negation_zero 𝓖)
-  total_back (forward j ∷ s) =
-      total_append (back s) (backward j ∷ [])
-      ∙ ap₂ 𝓖.sum (total_back s) (right 𝓖 _) ∙ 𝓖.commutative _ _ ∙ sym (negation_sum 𝓖 _ _)
-  total_back (backward j ∷ s) =
-      total_append (back s) (forward j ∷ [])
-      ∙ ap₂ 𝓖.sum (total_back s) (right 𝓖 _ ∙ sym (negation_negation 𝓖 _)) ∙ 𝓖.commutative _ _ ∙ sym (negation_sum 𝓖 _ _)
+  sum_back : (s : List Step) → walk_sum 𝓖 R (back s) ≡ 𝓖.negation (walk_sum 𝓖 R s)
+  sum_back [] = sym (negation_zero 𝓖)
+  sum_back (forward j ∷ s) =
+      sum_append (back s) (backward j ∷ [])
+      ∙ ap₂ 𝓖.sum (sum_back s) (right 𝓖 _) ∙ 𝓖.commutative _ _ ∙ sym (negation_sum 𝓖 _ _)
+  sum_back (backward j ∷ s) =
+      sum_append (back s) (forward j ∷ [])
+      ∙ ap₂ 𝓖.sum (sum_back s) (right 𝓖 _ ∙ sym (negation_negation 𝓖 _)) ∙ 𝓖.commutative _ _ ∙ sym (negation_sum 𝓖 _ _)
 
   pub reach_more : (k m a b : ℕ) (x : G) → k ≤ m → Reaches 𝓖 R k a b x → Reaches 𝓖 R m a b x
   reach_more k m a b x l r = (r.0, walk_more R k m a b r.0 l r.1, r.2)
 
   pub reach_then : (k a b c : ℕ) (x y : G) → Reaches 𝓖 R k a b x → Reaches 𝓖 R k b c y → Reaches 𝓖 R k a c (𝓖.sum x y)
-  reach_then k a b c x y r t = (r.0 ++ t.0, walk_append R k a b c r.0 t.0 r.1 t.1, total_append r.0 t.0 ∙ ap₂ 𝓖.sum r.2 t.2)
+  reach_then k a b c x y r t = (r.0 ++ t.0, walk_append R k a b c r.0 t.0 r.1 t.1, sum_append r.0 t.0 ∙ ap₂ 𝓖.sum r.2 t.2)
 
   pub reach_back : (k a b : ℕ) (x : G) → Reaches 𝓖 R k a b x → Reaches 𝓖 R k b a (𝓖.negation x)
-  reach_back k a b x r = (back r.0, walk_back R k a b r.0 r.1, total_back r.0 ∙ ap 𝓖.negation r.2)
+  reach_back k a b x r = (back r.0, walk_back R k a b r.0 r.1, sum_back r.0 ∙ ap 𝓖.negation r.2)
 
   pub reach_over : (k j : ℕ) → j < k → Reaches 𝓖 R k (R.tail j) (R.head j) (R.reading j)
   reach_over k j l = (forward j ∷ [], (l, refl, refl), right 𝓖 _)

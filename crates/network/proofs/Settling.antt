@@ -3,10 +3,14 @@ use Rattle.std.proofs.Common.{◌≡◌, ℕ, ◌+◌, ◌<◌, ◌≤◌, Bool,
 use Rattle.std.proofs.lemmas.Bool.{cases_eq, false≢true}
 use Rattle.quantity.specs.Group.{Group, minus}
 use Rattle.network.specs.Walks.{Network, Within, Walk, WalksClose, SomeWalkFails, Lowest, Solved}
-use Rattle.network.specs.Settled.{Reaches, Settled, Moved, gap_at}
+use Rattle.network.specs.Settled.{Reaches, Settled, Moved}
 use Rattle.quantity.proofs.Groups.{minus_zero, sum_minus, minus_sum, minus_shift, negation_minus, negation_negation, swap, same_from_minus}
-use Rattle.network.proofs.Walking.{walk_total, potentials_close_walks}
+use Rattle.network.proofs.Walking.{walk_adds, potentials_close_walks}
 use Rattle.network.proofs.Reaching.{walk_keeps, walk_within, reach_more, reach_then, reach_back, reach_over}
+
+-- how far the reading of row k is from the difference of the potentials at its ends
+abbrev pub gap_at : {G : Type 0} → Group G → Network G → (ℕ → G) → ℕ → G
+gap_at 𝓖 R p k = minus 𝓖 (R.reading k) (minus 𝓖 (p (R.tail k)) (p (R.head k)))
 
 module _ {G : Type 0} (𝓖 : Group G) (R : Network G) (n : ℕ) where
   pub start : (label : ℕ → ℕ) (p : ℕ → G) → ((v : ℕ) → v < n → label v ≡ v) → ((v : ℕ) → v < n → p v ≡ 𝓖.zero) → Settled 𝓖 R n 0 label p
@@ -21,8 +25,8 @@ module _ {G : Type 0} (𝓖 : Group G) (R : Network G) (n : ℕ) where
       }
 
   module _ (k : ℕ) (label : ℕ → ℕ) (p : ℕ → G) (settled : Settled 𝓖 R n k label p) where
-    pub settled_balances : WalksClose 𝓖 R k
-    settled_balances = potentials_close_walks 𝓖 R k p settled.satisfies
+    pub settled_closes : WalksClose 𝓖 R k
+    settled_closes = potentials_close_walks 𝓖 R k p settled.satisfies
 
     -- a lowest vertex is its own label
     lowest_own : (v : ℕ) → v < n → Lowest R k v → label v ≡ v
@@ -42,7 +46,7 @@ module _ {G : Type 0} (𝓖 : Group G) (R : Network G) (n : ℕ) where
           only = λ q fits grounded v l.
               let r = settled.walks v l in
               let zero-there = grounded (label v) (omega (arith, settled.low v l)) (label_lowest within v l) in
-              let added = walk_total 𝓖 R k q fits v (label v) r.0 r.1 in
+              let added = walk_adds 𝓖 R k q fits v (label v) r.0 r.1 in
               sym (minus_zero 𝓖 (q v)) ∙ ap (minus 𝓖 (q v)) (sym zero-there) ∙ sym added ∙ r.2;
         }
 
@@ -80,8 +84,8 @@ module _ {G : Type 0} (𝓖 : Group G) (R : Network G) (n : ℕ) where
     row_decides la lb same false decides = let r = round la lb same in (a, r.0, r.1, λ none. false≢true (decides.1 (sym r.2 ∙ none)))
 
     -- where every closed walk adds to zero, a row within one part fits
-    pub row_balances : a < n → b < n → label a ≡ label b → WalksClose 𝓖 R (k + 1) → Settled 𝓖 R n (k + 1) label p
-    row_balances la lb same balanced = let r = round la lb same in row_fits same (same_from_minus 𝓖 _ _ (sym r.2 ∙ balanced a r.0 r.1))
+    pub row_fits_closing : a < n → b < n → label a ≡ label b → WalksClose 𝓖 R (k + 1) → Settled 𝓖 R n (k + 1) label p
+    row_fits_closing la lb same closing = let r = round la lb same in row_fits same (same_from_minus 𝓖 _ _ (sym r.2 ∙ closing a r.0 r.1))
 
     module _ (label' : ℕ → ℕ) (p' : ℕ → G) where
       -- the part of c goes over to the part of d, along a step from c to d that adds y

@@ -5,6 +5,7 @@ use Rattle.quantity.specs.Group.{Group, minus}
 use Rattle.netlist.specs.Rows.{across_of}
 use Rattle.netlist.specs.declared.rows.Row.{Row}
 use Rattle.netlist.specs.declared.rows.Row.TheVariants.{Branch, Earth}
+use Rattle.network.specs.First.{First}
 
 -- row j leads from the vertex `tail j` to the vertex `head j`, and has a reading
 pub record Network (G : Type 0) : Type 0 where
@@ -31,9 +32,14 @@ head_of (Earth flow across node) = 0
 abbrev pub read : {G : Type 0} → Group G → List G → ℕ → G
 read 𝓖 readings v = slice_index_or readings v 𝓖.zero
 
--- the network of a sheet's rows, with their across readings
+-- the network of rows, each with the reading that its number has
+abbrev pub rows_network : {G : Type 0} → List (Row ℕ) → (ℕ → G) → Network G
+rows_network rows reading =
+    record { tail = λ j. tail_of (row_at rows j); head = λ j. head_of (row_at rows j); reading = reading }
+
+-- the network of rows, each with the reading of its across variable
 abbrev pub network_of : {G : Type 0} → Group G → List (Row ℕ) → List G → Network G
-network_of 𝓖 rows values = record { tail = λ j. tail_of (row_at rows j); head = λ j. head_of (row_at rows j); reading = λ j. read 𝓖 values (across_of (row_at rows j)) }
+network_of 𝓖 rows values = rows_network rows (λ j. read 𝓖 values (across_of (row_at rows j)))
 
 -- the ends of the first m rows are below n
 abbrev pub Within : {G : Type 0} → Network G → ℕ → ℕ → Type 0
@@ -55,18 +61,18 @@ Walk R k a (forward j ∷ s) b = (j < k) × (a ≡ R.tail j) × Walk R k (R.head
 Walk R k a (backward j ∷ s) b = (j < k) × (a ≡ R.head j) × Walk R k (R.tail j) s b
 
 -- a row's reading counts once for each step forward, and negated for each step back
-abbrev pub total : {G : Type 0} → Group G → Network G → List Step → G
-total 𝓖 R [] = 𝓖.zero
-total 𝓖 R (forward j ∷ s) = 𝓖.sum (R.reading j) (total 𝓖 R s)
-total 𝓖 R (backward j ∷ s) = 𝓖.sum (𝓖.negation (R.reading j)) (total 𝓖 R s)
+abbrev pub walk_sum : {G : Type 0} → Group G → Network G → List Step → G
+walk_sum 𝓖 R [] = 𝓖.zero
+walk_sum 𝓖 R (forward j ∷ s) = 𝓖.sum (R.reading j) (walk_sum 𝓖 R s)
+walk_sum 𝓖 R (backward j ∷ s) = 𝓖.sum (𝓖.negation (R.reading j)) (walk_sum 𝓖 R s)
 
 -- every closed walk along the rows below k adds to zero
 abbrev pub WalksClose : {G : Type 0} → Group G → Network G → ℕ → Type 0
-WalksClose 𝓖 R k = (a : ℕ) (s : List Step) → Walk R k a s a → total 𝓖 R s ≡ 𝓖.zero
+WalksClose 𝓖 R k = (a : ℕ) (s : List Step) → Walk R k a s a → walk_sum 𝓖 R s ≡ 𝓖.zero
 
 -- some closed walk along the rows below k does not add to zero
 abbrev pub SomeWalkFails : {G : Type 0} → Group G → Network G → ℕ → Type 0
-SomeWalkFails 𝓖 R k = (a : ℕ) × (s : List Step) × Walk R k a s a × (total 𝓖 R s ≢ 𝓖.zero)
+SomeWalkFails 𝓖 R k = (a : ℕ) × (s : List Step) × Walk R k a s a × (walk_sum 𝓖 R s ≢ 𝓖.zero)
 
 -- the reading of each row below k is the difference of the potentials at its ends
 abbrev pub Satisfies : {G : Type 0} → Group G → Network G → ℕ → (ℕ → G) → Type 0
@@ -87,14 +93,14 @@ pub record Solved {G : Type 0} (𝓖 : Group G) (R : Network G) (n k : ℕ) (p :
   pub only : (q : ℕ → G) → Satisfies 𝓖 R k q → Grounded 𝓖 R n k q → (v : ℕ) → v < n → q v ≡ p v
 
 -- k is the lowest of the rows below m such that the rows up to it have a closed walk that does not add to zero
-pub record Refuted {G : Type 0} (𝓖 : Group G) (R : Network G) (m k : ℕ) : Type 0 where
-  pub within : k < m
-  pub before : WalksClose 𝓖 R k
-  pub here : SomeWalkFails 𝓖 R (k + 1)
+abbrev pub Refuted : {G : Type 0} → Group G → Network G → ℕ → ℕ → Type 0
+Refuted 𝓖 R m k = First (λ j. WalksClose 𝓖 R (j + 1)) (λ j. SomeWalkFails 𝓖 R (j + 1)) m k
 
 -- THEOREM: potentials that satisfy the rows make each walk add to the difference of its ends
 abbrev pub WalksAddToDifferences : {G : Type 0} → Group G → Type 0
-WalksAddToDifferences {G} 𝓖 = (R : Network G) (k : ℕ) (p : ℕ → G) → Satisfies 𝓖 R k p → (a b : ℕ) (s : List Step) → Walk R k a s b → total 𝓖 R s ≡ minus 𝓖 (p a) (p b)
+WalksAddToDifferences {G} 𝓖 =
+    (R : Network G) (k : ℕ) (p : ℕ → G) → Satisfies 𝓖 R k p
+    → (a b : ℕ) (s : List Step) → Walk R k a s b → walk_sum 𝓖 R s ≡ minus 𝓖 (p a) (p b)
 
 -- THEOREM: so every closed walk adds up to zero
 abbrev pub PotentialsCloseWalks : {G : Type 0} → Group G → Type 0
@@ -102,4 +108,5 @@ PotentialsCloseWalks {G} 𝓖 = (R : Network G) (k : ℕ) (p : ℕ → G) → Sa
 
 -- THEOREM: and where every closed walk adds up to zero there are potentials
 abbrev pub ClosingHasPotentials : {G : Type 0} → Group G → Type 0
-ClosingHasPotentials {G} 𝓖 = (R : Network G) (n m : ℕ) → Within R n m → WalksClose 𝓖 R m → (p : ℕ → G) × Solved 𝓖 R n m p
+ClosingHasPotentials {G} 𝓖 =
+    (R : Network G) (n m : ℕ) → Within R n m → WalksClose 𝓖 R m → (p : ℕ → G) × Solved 𝓖 R n m p

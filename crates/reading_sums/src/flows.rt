@@ -24,7 +24,8 @@ fn crossing<K: Quantity>(start_inside: bool, end_inside: bool, flow: K) -> K
 // What a row brings out of the set that a test tells. The earth is in no such set.
 fn leaves<K: Quantity, F: Fn(usize) -> bool>(row: Row, values: &[K], is_inside: &F) -> K
     requires { F.IsAlwaysCallable is_inside.now }
-    ensures { (inside : ℕ → Bool) → IsTestOf inside (F.post is_inside.now) → result ≡ leaves K.group inside row (read K.group values.now (flow_of row)) }
+    ensures { (inside : ℕ → Bool) → IsTestOf inside (F.post is_inside.now)
+        → result ≡ leaves K.group inside row (read K.group values.now (flow_of row)) }
 {
     let flow = reading(values, row.flow());
     match row {
@@ -36,7 +37,8 @@ fn leaves<K: Quantity, F: Fn(usize) -> bool>(row: Row, values: &[K], is_inside: 
 // What flows out of the set that a test tells.
 fn flow_out<K: Quantity, F: Fn(usize) -> bool>(rows: &[Row], values: &[K], is_inside: F) -> K
     requires { F.IsAlwaysCallable is_inside }
-    ensures { (inside : ℕ → Bool) → IsTestOf inside (F.post is_inside) → result ≡ net_flow K.group rows.now values.now inside }
+    ensures { (inside : ℕ → Bool) → IsTestOf inside (F.post is_inside)
+        → result ≡ net_flow K.group rows.now values.now inside }
 {
     let mut sum = K::zero();
     for k in 0..rows.len() {

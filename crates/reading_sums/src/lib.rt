@@ -4,7 +4,9 @@
 mod flows;
 mod laws;
 mod lookup;
+mod readings;
 
 pub use flows::{net_flow, node_excess};
 pub use laws::{law_sum, value_or_rate};
 pub use lookup::reading;
+pub use readings::Readings;

@@ -13,22 +13,23 @@ use Rattle.netlist.specs.declared.terms.Order.TheVariants.{Value, Rate}
 use Rattle.netlist.specs.declared.terms.Term.{Term}
 use Rattle.network.specs.Flows.{crossing, leaves, net_flow}
 use Rattle.network.specs.Laws.{of_order, law_sum}
-use Rattle.network.specs.Walks.{Network, Step, forward, backward, Walk, read, row_at, total}
-use Rattle.small_readings.specs.Exact.{values_of, over_wholes, over_integers}
+use Rattle.network.specs.Readings.{Readings}
+use Rattle.network.specs.Walks.{Network, Step, forward, backward, Walk, read, row_at, walk_sum}
+use Rattle.small_readings.specs.Exact.{values_of, integers_of, over_wholes, over_integers}
 
 pub read_is : (xs : List Whole) (v : ℕ) → read wholes xs v ≡ whole (read integers (values_of xs) v)
 read_is [] v = refl
 read_is (x ∷ xs) zero = sym (whole_wrapping.of_value x)
 read_is (x ∷ xs) (suc v) = read_is xs v
 
-order_is : (o : Order) (values rates : List Whole) (v : ℕ) → read wholes (of_order o values rates) v ≡ whole (read integers (of_order o (values_of values) (values_of rates)) v)
-order_is Value values rates v = read_is values v
-order_is Rate values rates v = read_is rates v
+order_is : (o : Order) (r : Readings Whole) (v : ℕ) → read wholes (of_order o r) v ≡ whole (read integers (of_order o (integers_of r)) v)
+order_is Value r v = read_is r.values v
+order_is Rate r v = read_is r.rates v
 
-pub law_is : (ts : List Term) (values rates : List Whole) → law_sum wholes ts values rates ≡ whole (law_sum integers ts (values_of values) (values_of rates))
-law_is [] values rates = refl
-law_is (t ∷ ts) values rates =
-    ap₂ wholes.sum (ap (wholes.multiple t.coefficient) (order_is t.order values rates t.variable) ∙ sym (whole_respects.multiple t.coefficient _)) (law_is ts values rates)
+pub law_is : (ts : List Term) (r : Readings Whole) → law_sum wholes ts r ≡ whole (law_sum integers ts (integers_of r))
+law_is [] r = refl
+law_is (t ∷ ts) r =
+    ap₂ wholes.sum (ap (wholes.multiple t.coefficient) (order_is t.order r t.variable) ∙ sym (whole_respects.multiple t.coefficient _)) (law_is ts r)
     ∙ sym (whole_respects.sum _ _)
 
 crossing_is : (a b : Bool) (z : ℤ) → crossing wholes a b (whole z) ≡ whole (crossing integers a b z)
@@ -51,11 +52,11 @@ module _ (b : Netlist) (values : List Whole) where
   pub reading_is : (j : ℕ) → (over_wholes b values).reading j ≡ whole ((over_integers b values).reading j)
   reading_is j = read_is values (across_of (row_at b.rows j))
 
-  pub total_is : (s : List Step) → total wholes (over_wholes b values) s ≡ whole (total integers (over_integers b values) s)
-  total_is [] = refl
-  total_is (forward j ∷ s) = ap₂ wholes.sum (reading_is j) (total_is s) ∙ sym (whole_respects.sum _ _)
-  total_is (backward j ∷ s) =
-      ap₂ wholes.sum (ap wholes.negation (reading_is j) ∙ sym (whole_respects.negation ((over_integers b values).reading j))) (total_is s)
+  pub walk_is : (s : List Step) → walk_sum wholes (over_wholes b values) s ≡ whole (walk_sum integers (over_integers b values) s)
+  walk_is [] = refl
+  walk_is (forward j ∷ s) = ap₂ wholes.sum (reading_is j) (walk_is s) ∙ sym (whole_respects.sum _ _)
+  walk_is (backward j ∷ s) =
+      ap₂ wholes.sum (ap wholes.negation (reading_is j) ∙ sym (whole_respects.negation ((over_integers b values).reading j))) (walk_is s)
       ∙ sym (whole_respects.sum _ _)
 
 -- a walk goes by rows and their ends, whatever the readings

@@ -6,8 +6,8 @@ use Rattle.std.proofs.lemmas.List.{length-append, length-map}
 use Rattle.std.proofs.lemmas.Map.Steps.{length-le_from_distinct_below}
 use Rattle.quantity.specs.Group.{Group}
 use Rattle.quantity.proofs.Groups.{swap}
-use Rattle.network.specs.Walks.{Network, Within, Step, forward, backward, Walk, total, SomeWalkFails}
-use Rattle.network.proofs.Reaching.{walk_append, total_append}
+use Rattle.network.specs.Walks.{Network, Within, Step, forward, backward, Walk, walk_sum, SomeWalkFails}
+use Rattle.network.proofs.Reaching.{walk_append, sum_append}
 
 module _ {G : Type 0} (R : Network G) where
   -- the vertex that a step leaves
@@ -93,7 +93,7 @@ module _ {G : Type 0} (𝓖 : Group G) (R : Network G) (k : ℕ) where
     closed : Walk R k vertex loop vertex
     rest_shorter : length rest < length s
     loop_shorter : length loop < length s
-    sum : total 𝓖 R s ≡ 𝓖.sum (total 𝓖 R loop) (total 𝓖 R rest)
+    sum : walk_sum 𝓖 R s ≡ 𝓖.sum (walk_sum 𝓖 R loop) (walk_sum 𝓖 R rest)
 
   apart : (a b : ℕ) (s : List Step) → Walk R k a s b → Again R s → Apart a b s
   apart a b s w r =
@@ -112,8 +112,8 @@ module _ {G : Type 0} (𝓖 : Group G) (R : Network G) (k : ℕ) where
         rest_shorter = omega (arith, long, length-append r.before tail, length-append loop tail);
         loop_shorter = omega (arith, long, length-append loop tail);
         sum =
-            ap (total 𝓖 R) r.is ∙ total_append 𝓖 R r.before (loop ++ tail) ∙ ap (𝓖.sum (total 𝓖 R r.before)) (total_append 𝓖 R loop tail)
-            ∙ swap 𝓖 (total 𝓖 R r.before) (total 𝓖 R loop) (total 𝓖 R tail) ∙ ap (𝓖.sum (total 𝓖 R loop)) (sym (total_append 𝓖 R r.before tail));
+            ap (walk_sum 𝓖 R) r.is ∙ sum_append 𝓖 R r.before (loop ++ tail) ∙ ap (𝓖.sum (walk_sum 𝓖 R r.before)) (sum_append 𝓖 R loop tail)
+            ∙ swap 𝓖 (walk_sum 𝓖 R r.before) (walk_sum 𝓖 R loop) (walk_sum 𝓖 R tail) ∙ ap (𝓖.sum (walk_sum 𝓖 R loop)) (sym (sum_append 𝓖 R r.before tail));
       }
 
   module _ (n : ℕ) (within : Within R n k) where
@@ -136,10 +136,10 @@ module _ {G : Type 0} (𝓖 : Group G) (R : Network G) (k : ℕ) where
     shortened a b s w = shortened_from (suc (length s)) a b s (omega arith) w
 
     abbrev Fails : Type 0
-    Fails = (a : ℕ) × (s : List Step) × Walk R k a s a × (length s ≤ n) × (total 𝓖 R s ≢ 𝓖.zero)
+    Fails = (a : ℕ) × (s : List Step) × Walk R k a s a × (length s ≤ n) × (walk_sum 𝓖 R s ≢ 𝓖.zero)
 
     module _ (zero_or_not : (x : G) → (x ≡ 𝓖.zero) ⊎ (x ≢ 𝓖.zero)) where
-      fails_from : (m a : ℕ) (s : List Step) → length s < m → Walk R k a s a → total 𝓖 R s ≢ 𝓖.zero → Fails
+      fails_from : (m a : ℕ) (s : List Step) → length s < m → Walk R k a s a → walk_sum 𝓖 R s ≢ 𝓖.zero → Fails
       fails_from zero a s l w some = absurd (omega arith)
       fails_from (suc m) a s l w some =
           ⊎_elim
@@ -149,7 +149,7 @@ module _ {G : Type 0} (𝓖 : Group G) (R : Network G) (k : ℕ) where
           ⊎_elim
           (λ none. fails_from m a p.rest (omega arith) p.walk (λ too. some (p.sum ∙ ap₂ 𝓖.sum none too ∙ 𝓖.neutral 𝓖.zero)))
           (λ not_so. fails_from m p.vertex p.loop (omega arith) p.closed not_so)
-          (zero_or_not (total 𝓖 R p.loop)))
+          (zero_or_not (walk_sum 𝓖 R p.loop)))
           (λ short. (a, s, w, short, some))
           (apart_or_short a a s w)
 

@@ -16,7 +16,8 @@ use Rattle.netlist.specs.declared.terms.Order.TheVariants.{Value, Rate}
 use Rattle.netlist.specs.declared.terms.Term.{Term}
 use Rattle.network.specs.Flows.{crossing, leaves, net_flow}
 use Rattle.network.specs.Laws.{of_order, law_sum}
-use Rattle.network.specs.Walks.{Network, Step, forward, backward, read, total}
+use Rattle.network.specs.Readings.{Readings}
+use Rattle.network.specs.Walks.{Network, Step, forward, backward, read, walk_sum}
 
 abs_sum : (a b : ℤ) → unsigned_abs (a +ℤ b) ≤ unsigned_abs a + unsigned_abs b
 abs_sum a b = omega (arith, ints)
@@ -42,21 +43,21 @@ module _ (most : ℕ) where
   abbrev pub Low : List ℤ → Type 0
   Low readings = (v : ℕ) → unsigned_abs (read integers readings v) ≤ most
 
-  order_size : (o : Order) (values rates : List ℤ) → Low values → Low rates → Low (of_order o values rates)
-  order_size Value values rates low_values low_rates = low_values
-  order_size Rate values rates low_values low_rates = low_rates
+  order_size : (o : Order) (r : Readings ℤ) → Low r.values → Low r.rates → Low (of_order o r)
+  order_size Value r low_values low_rates = low_values
+  order_size Rate r low_values low_rates = low_rates
 
-  pub law_size : (ts : List Term) (values rates : List ℤ) → list_all is_sized ts ≡ true → Low values → Low rates → unsigned_abs (law_sum integers ts values rates) ≤ length ts * (1000000 * most)
-  law_size [] values rates few low_values low_rates = omega arith
-  law_size (t ∷ ts) values rates few low_values low_rates =
+  pub law_size : (ts : List Term) (r : Readings ℤ) → list_all is_sized ts ≡ true → Low r.values → Low r.rates → unsigned_abs (law_sum integers ts r) ≤ length ts * (1000000 * most)
+  law_size [] r few low_values low_rates = omega arith
+  law_size (t ∷ ts) r few low_values low_rates =
       let both = and_parts (is_sized t) (list_all is_sized ts) few in
-      let x = read integers (of_order t.order values rates) t.variable in
+      let x = read integers (of_order t.order r) t.variable in
       omega (
         arith,
-        abs_sum (t.coefficient *ℤ x) (law_sum integers ts values rates),
+        abs_sum (t.coefficient *ℤ x) (law_sum integers ts r),
         unsigned_abs-mul t.coefficient x,
-        mul-le-mul (sized t both.0) (order_size t.order values rates low_values low_rates t.variable),
-        law_size ts values rates both.1 low_values low_rates,
+        mul-le-mul (sized t both.0) (order_size t.order r low_values low_rates t.variable),
+        law_size ts r both.1 low_values low_rates,
       )
 
   pub flow_size : (rows : List (Row ℕ)) (values : List ℤ) (inside : ℕ → Bool) → Low values → unsigned_abs (net_flow integers rows values inside) ≤ length rows * most
@@ -71,7 +72,7 @@ module _ (most : ℕ) where
         flow_size rows values inside low,
       )
 
-  pub total_size : (R : Network ℤ) → ((j : ℕ) → unsigned_abs (R.reading j) ≤ most) → (s : List Step) → unsigned_abs (total integers R s) ≤ length s * most
-  total_size R low [] = omega arith
-  total_size R low (forward j ∷ s) = omega (arith, abs_sum (R.reading j) (total integers R s), low j, total_size R low s)
-  total_size R low (backward j ∷ s) = omega (arith, abs_sum (neg_ℤ (R.reading j)) (total integers R s), abs_negation (R.reading j), low j, total_size R low s)
+  pub walk_size : (R : Network ℤ) → ((j : ℕ) → unsigned_abs (R.reading j) ≤ most) → (s : List Step) → unsigned_abs (walk_sum integers R s) ≤ length s * most
+  walk_size R low [] = omega arith
+  walk_size R low (forward j ∷ s) = omega (arith, abs_sum (R.reading j) (walk_sum integers R s), low j, walk_size R low s)
+  walk_size R low (backward j ∷ s) = omega (arith, abs_sum (neg_ℤ (R.reading j)) (walk_sum integers R s), abs_negation (R.reading j), low j, walk_size R low s)

@@ -10,14 +10,14 @@ use Rattle.quantity.proofs.Images.{whole_respects}
 use Rattle.netlist.specs.Netlist.{Netlist}
 use Rattle.netlist.specs.Sound.{Sound}
 use Rattle.network.specs.Settled.{Settled}
-use Rattle.network.specs.Walks.{total, Within, Satisfies, Grounded, Solved}
+use Rattle.network.specs.Walks.{walk_sum, Within, Satisfies, Grounded, Solved}
 use Rattle.network.proofs.Folding.{state, closing_has_potentials}
 use Rattle.network.proofs.Settling.{settled_solves}
-use Rattle.network.proofs.Walking.{walk_total, potentials_close_walks}
+use Rattle.network.proofs.Walking.{walk_adds, potentials_close_walks}
 use Rattle.small_readings.specs.Small.{AreSmall}
 use Rattle.small_readings.specs.Exact.{over_wholes, over_integers}
 use Rattle.small_readings.proofs.Bounds.{held_as_is, rows_within}
-use Rattle.small_readings.proofs.Closing.{walk_to_wholes, short_near, balanced_to_integers}
+use Rattle.small_readings.proofs.Closing.{walk_to_wholes, short_near, close_to_integers}
 use Rattle.small_readings.proofs.Images.{reading_is}
 use Rattle.small_readings.proofs.Shortening.{shortened}
 
@@ -44,15 +44,15 @@ module _ (b : Netlist) (sound : Sound b) (values : List Whole) (small : AreSmall
   settled_near label q settled v l =
       let reach = settled.walks v l in
       let s = shortened integers (over_integers b values) k n within v (label v) reach.0 reach.1 in
-      let is : total integers (over_integers b values) s.0 ≡ q v =
-      walk_total integers (over_integers b values) k q settled.satisfies v (label v) s.0 s.1
+      let is : walk_sum integers (over_integers b values) s.0 ≡ q v =
+      walk_adds integers (over_integers b values) k q settled.satisfies v (label v) s.0 s.1
       ∙ ap (minus integers (q v)) (settled.ground v l) ∙ minus_zero integers (q v) in
       subst (λ (z : ℤ). unsigned_abs z < 2 ^ 63) is (short_near b sound values small s.0 s.2)
 
   pub solved_to_integers : (p : ℕ → Whole) → Solved wholes (over_wholes b values) n k p → Solved integers (over_integers b values) n k (λ v. (p v).value)
   solved_to_integers p solved =
-      let balanced = balanced_to_integers b sound values small k few (potentials_close_walks wholes (over_wholes b values) k p solved.satisfies) in
-      let built = state integers (over_integers b values) n k within balanced in
+      let close = close_to_integers b sound values small k few (potentials_close_walks wholes (over_wholes b values) k p solved.satisfies) in
+      let built = state integers (over_integers b values) n k within close in
       let q = built.1 in
       let found = settled_solves integers (over_integers b values) n k built.0 q built.2 within in
       let same : (v : ℕ) → v < n → (p v).value ≡ q v =

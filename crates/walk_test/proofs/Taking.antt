@@ -2,8 +2,8 @@
 use Rattle.std.proofs.Common.{◌≡◌, ℕ, ◌+◌, ◌<◌, Bool, Decides, MatchBool, List, length, slice_index, sym, ap, ◌∙◌, subst, subst₂, arith}
 use Rattle.quantity.specs.Group.{Group, minus}
 use Rattle.network.specs.Walks.{Network, Within, SomeWalkFails}
-use Rattle.network.specs.Settled.{Settled, gap_at}
-use Rattle.network.proofs.Settling.{row_decides, tail_joins, head_joins}
+use Rattle.network.specs.Settled.{Settled}
+use Rattle.network.proofs.Settling.{gap_at, row_decides, tail_joins, head_joins}
 use Rattle.walk_test.specs.Joining.{SettledBy, MovedBy}
 use Rattle.walk_test.specs.Potentials.{potential_at}
 

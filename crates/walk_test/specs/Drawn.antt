@@ -1,5 +1,7 @@
 -- Whether each node that rows name has a potential.
-use Rattle.std.specs.Prelude.{ℕ, Bool, not, ◌&&◌, nat_lt, if◌then◌else◌, List, position, Option, Some, None, Result, Ok, Err}
+use Rattle.std.specs.Prelude.{ℕ, Bool, not, ◌&&◌, nat_lt, if◌then◌else◌, List, position, Option, Some, None}
+use Rattle.std.specs.Prelude.{Result, Ok, Err}
+use Rattle.netlist.specs.Limits.{most_nodes}
 use Rattle.netlist.specs.declared.rows.Row.{Row}
 use Rattle.netlist.specs.declared.rows.Row.TheVariants.{Branch, Earth}
 use Rattle.walk_test.specs.declared.findings.Misfit.{Misfit}
@@ -20,4 +22,4 @@ undrawn (Some k) = Err (Undrawn k)
 
 -- a workspace serves n nodes, and each row names none but these; or the first of this that fails
 abbrev pub judged : List (Row ℕ) → ℕ → Result (Unit {0}) Misfit
-judged rows n = if nat_lt 1000 n then Err TooMany else undrawn (first_undrawn rows n)
+judged rows n = if nat_lt most_nodes n then Err TooMany else undrawn (first_undrawn rows n)

@@ -27,7 +27,8 @@ fn potential<K: Quantity>(potentials: &[K], v: usize) -> K
 fn gap<K: Quantity>(reading: K, ends: Ends, potentials: &[K]) -> K
     requires tail { ends.tail < length potentials.now + 1 }
     requires head { ends.head < length potentials.now + 1 }
-    ensures { result ≡ minus K.group reading (minus K.group (potential_at K.group potentials.now ends.tail) (potential_at K.group potentials.now ends.head)) }
+    ensures { result ≡ minus K.group reading (minus K.group
+        (potential_at K.group potentials.now ends.tail) (potential_at K.group potentials.now ends.head)) }
 {
     let at_tail = potential(potentials, ends.tail);
     let at_head = potential(potentials, ends.head);

@@ -4,7 +4,7 @@ ghost use Rattle.walk_test.specs.Drawn.{first_undrawn, judged};
 
 use crate::ends::is_drawn;
 use crate::findings::Misfit;
-use crate::workspaces::MAX_NODES;
+use netlist::limits::MAX_NODES;
 use netlist::rows::Row;
 
 // The lowest row that names another than the first `nodes` nodes.

@@ -14,4 +14,4 @@ pub use across::{Across, ByVariable};
 pub use findings::{Finding, Misfit};
 pub use starting::clear;
 pub use testing::{one_answer, test_walks};
-pub use workspaces::{MAX_NODES, Workspace};
+pub use workspaces::Workspace;

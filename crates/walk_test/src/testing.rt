@@ -42,7 +42,8 @@ pub fn test_walks<K: Quantity, A: Across<K>>(
     potentials: &mut [K],
     workspace: &mut Workspace,
 ) -> Result<Finding, Misfit>
-    ensures { Tested K.group rows.now (network_with rows.now (A.reading across.now)) potentials.old potentials.new result }
+    ensures { let R = network_with rows.now (A.reading across.now) in
+        Tested K.group rows.now R potentials.old potentials.new result }
 {
     judge(rows, potentials.len())?;
     Ok(take_rows(rows, across, &mut workspace.labels, potentials))

@@ -1,9 +1,7 @@
 //! What the walk test works in.
+use netlist::limits::MAX_NODES;
 use std::alloc::{AllocError, Global};
 use std::marker::Model;
-
-/// The most nodes that a sheet has.
-pub const MAX_NODES: usize = 1000;
 
 /// Memory for the labels of the earth point and of the nodes of the largest sheet. It is made once, and used
 /// again for every set of readings.
@@ -14,13 +12,14 @@ pub struct Workspace {
 
 // What it holds is of no matter to callers, since each test begins anew: so they see nothing in it.
 impl Model for Workspace {
-    ghost use Rattle.std.specs.Prelude.{◌≡◌, ⊤, vec_len};
+    ghost use Rattle.std.specs.Prelude.{◌≡◌, ◌+◌, ⊤, vec_len};
+    ghost use Rattle.netlist.specs.Limits.{most_nodes};
 
     ghost Value = { ⊤ };
 
     ghost view = { λ _. tt };
 
-    ghost invariant = { λ workspace. vec_len workspace.labels ≡ 1001 };
+    ghost invariant = { λ workspace. vec_len workspace.labels ≡ most_nodes + 1 };
 }
 
 impl Workspace {

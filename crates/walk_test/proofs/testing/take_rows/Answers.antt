@@ -1,5 +1,6 @@
 use Rattle.std.proofs.Common.{◌≡◌, ◌+◌, length, slice_index, subst, arith, rules}
-use Rattle.network.proofs.Settling.{settled_balances, settled_solves}
+use Rattle.network.proofs.Refuting.{refuted_from}
+use Rattle.network.proofs.Settling.{settled_closes, settled_solves}
 use Rattle.walk_test.specs.Joining.{SettledBy}
 use Rattle.walk_test.specs.Potentials.{potential_at}
 use Rattle.walk_test.specs.Tested.{network_with}
@@ -10,12 +11,11 @@ loop-k-init g c = c.start.ensures _
 
 pub returns-then-not-join : goal.returns-then-not-join
 returns-then-not-join g c =
-    let l = c.loop-k in (
-      record {
-        within = c.loop-k-test.true;
-        before = settled_balances _ _ (length l.potentials + 1) _ (slice_index l.labels) (potential_at g.K.Quantity.group l.potentials) l.invariant;
-        here = c.if-not-join.ensures;
-      },
+    let l = c.loop-k in
+    let 𝓖 = g.K.Quantity.group in
+    let R = network_with c.args.rows.now (g.A.Across.reading c.args.across.now) in
+    let close = settled_closes 𝓖 R (length l.potentials + 1) l.k (slice_index l.labels) (potential_at 𝓖 l.potentials) l.invariant in (
+      refuted_from 𝓖 R (length c.args.rows.now) l.k c.loop-k-test.true close c.if-not-join.ensures,
       search rules,
     )
 
