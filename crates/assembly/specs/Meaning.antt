@@ -1,5 +1,6 @@
 -- What an assembly means: void, or a plan; and what each query tells of it.
-use Rattle.std.specs.Prelude.{◌≡◌, ℕ, ◌≤◌, Bool, true, false, ◌&&◌, List, [], ◌++◌, map, length, Some, None, Option, nat_le, slice_index_or}
+use Rattle.std.specs.Prelude.{◌≡◌, ℕ, ◌≤◌, Bool, true, false, ◌&&◌, List, [], ◌++◌, map, length, nat_le}
+use Rattle.std.specs.Prelude.{Some, None, Option, slice_index_or}
 use Rattle.netlist.specs.declared.domains.Domain.{Domain}
 use Rattle.netlist.specs.Sound.{is_term_count}
 use Rattle.std.specs.List.{list_all}

@@ -1,4 +1,4 @@
--- The rows and terms of a plan: those of a netlist, in the plan's own numbers; and how much a plan may have of each thing.
+-- The rows and terms of a plan: those of a netlist, in the plan's own numbers. And how much a plan may have.
 use Rattle.std.specs.Prelude.{ℕ}
 use Rattle.netlist.specs.declared.rows.Row.{Row}
 use Rattle.netlist.specs.declared.terms.RawTerm.{RawTerm}

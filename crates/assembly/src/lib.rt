@@ -26,6 +26,7 @@ pub trait Assembly {
     fn domain(&self, node: usize) -> Option<Domain>
         ensures { result ≡ slice_get (domains_of (meaning self.now)) node };
 
+    /// Row `k`, in the plan's own numbers.
     fn row(&self, k: usize) -> Option<PlanRow>
         ensures { result ≡ slice_get (rows_of (meaning self.now)) k };
 
@@ -37,6 +38,7 @@ pub trait Assembly {
     fn term(&self, k: usize, t: usize) -> Option<PlanTerm>
         ensures { result ≡ slice_get (terms_of (meaning self.now) k) t };
 
+    /// Whether there is no plan.
     fn is_void(&self) -> bool
         ensures { result ≡ is_void (meaning self.now) }
     {

@@ -27,6 +27,7 @@ impl Size {
     /// A plan has at most so many inner nodes, variables, rows and laws, of each.
     pub const MOST: usize = 6000;
 
+    /// Whether no count is above the limit.
     pub fn is_small(self) -> bool
         ensures { result ≡ is_small self }
     {

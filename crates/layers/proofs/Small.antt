@@ -4,16 +4,17 @@ use Rattle.std.proofs.lemmas.Bool.Decides.{nat_tests}
 use Rattle.assembly.specs.declared.plans.Size.{Size}
 use Rattle.netlist.specs.Sound.{is_term_count}
 use Rattle.std.specs.List.{list_all}
+use Rattle.assembly.specs.Plans.{most_of_plan}
 use Rattle.assembly.specs.Meaning.{is_small, Plan, Bounded, size_in}
 
 abbrev pub size_with : ℕ → ℕ → ℕ → ℕ → ℕ → Size
 size_with e i v r l = record { ends = e; inner = i; variables = v; rows = r; laws = l }
 
 pub record Bounds (n : Size) : Type 0 where
-  pub nodes : n.inner ≤ 6000
-  pub variables : n.variables ≤ 6000
-  pub rows : n.rows ≤ 6000
-  pub laws : n.laws ≤ 6000
+  pub nodes : n.inner ≤ most_of_plan
+  pub variables : n.variables ≤ most_of_plan
+  pub rows : n.rows ≤ most_of_plan
+  pub laws : n.laws ≤ most_of_plan
 
 pub small_bounds : (n : Size) → is_small n ≡ true → Bounds n
 small_bounds n e = grind (arith, nat_tests)

@@ -1,7 +1,7 @@
 -- What becomes of a part's nodes, variables, rows and laws in the layer that holds it.
 use Rattle.std.specs.Prelude.{ℕ, List, ◌∷◌, map, slice_index_or}
 use Rattle.std.specs.List.{range_with_len}
-use Rattle.netlist.specs.declared.rows.Row.TheVariants.{Branch, Earth}
+use Rattle.netlist.specs.Renaming.{Renaming, renamed_row, renamed_raw_term}
 use Rattle.assembly.specs.Plans.{PlanRow, PlanTerm}
 use Rattle.assembly.specs.Meaning.{Plan}
 use Rattle.layers.specs.declared.renumbering.Renumbering.{Renumbering}
@@ -24,13 +24,14 @@ moved_node p n = slice_index_or (new_nodes p) n absent
 abbrev pub moved_variable : Renumbering → ℕ → ℕ
 moved_variable p v = slice_index_or (new_variables p) v absent
 
+abbrev pub renaming_of : Renumbering → Renaming
+renaming_of p = record { node = moved_node p; variable = moved_variable p }
+
 abbrev pub moved_row : Renumbering → PlanRow → PlanRow
-moved_row p (Branch flow across first second) =
-    Branch (moved_variable p flow) (moved_variable p across) (moved_node p first) (moved_node p second)
-moved_row p (Earth flow across node) = Earth (moved_variable p flow) (moved_variable p across) (moved_node p node)
+moved_row p row = renamed_row (renaming_of p) row
 
 abbrev pub moved_term : Renumbering → PlanTerm → PlanTerm
-moved_term p t = record { coefficient = t.coefficient; order = t.order; variable = moved_variable p t.variable }
+moved_term p t = renamed_raw_term (renaming_of p) t
 
 abbrev pub moved_rows : Renumbering → Plan → List PlanRow
 moved_rows p a = map (moved_row p) a.rows

@@ -1,5 +1,6 @@
 //! A layer of two parts.
 ghost use Rattle.std.specs.Prelude.{◌+◌, ◌≤◌};
+ghost use Rattle.assembly.specs.Plans.{most_of_plan};
 
 use super::renumbering::Renumbering;
 use assembly::plans::Size;
@@ -10,8 +11,8 @@ pub struct Halves {
     pub first: Size,
     pub second: Size,
     pub whole: Size,
-    ghost few_inner: { first.inner + second.inner ≤ 6000 },
-    ghost few_variables: { first.variables + second.variables ≤ 6000 },
+    ghost few_inner: { first.inner + second.inner ≤ most_of_plan },
+    ghost few_variables: { first.variables + second.variables ≤ most_of_plan },
 }
 
 impl Halves {

@@ -39,7 +39,8 @@ impl<A: Assembly, B: Assembly> Drop for Pair<'_, A, B> {
 impl<A: Assembly, B: Assembly> Pair<'_, A, B> {
     /// The domain of a node of the first part, or behind these of an inner node of the second.
     pub fn domain(&self, node: usize) -> Option<Domain>
-        ensures { result ≡ slice_get (joined_domains (A.Assembly.meaning self.now.first.now) (B.Assembly.meaning self.now.second.now)) node }
+        ensures { let m = A.Assembly.meaning self.now.first.now in let n = B.Assembly.meaning self.now.second.now in
+            result ≡ slice_get (joined_domains m n) node }
     {
         let inner = self.parts.first.inner;
         if node < 2 + inner {
@@ -49,8 +50,10 @@ impl<A: Assembly, B: Assembly> Pair<'_, A, B> {
         }
     }
 
+    /// Row `k`: the first part's rows, and behind them the second's.
     pub fn row(&self, k: usize) -> Option<PlanRow>
-        ensures { result ≡ slice_get (joined_rows self.now.front self.now.back (A.Assembly.meaning self.now.first.now) (B.Assembly.meaning self.now.second.now)) k }
+        ensures { let m = A.Assembly.meaning self.now.first.now in let n = B.Assembly.meaning self.now.second.now in
+            result ≡ slice_get (joined_rows self.now.front self.now.back m n) k }
     {
         let before = self.parts.first.rows;
         if k < before {
@@ -62,7 +65,8 @@ impl<A: Assembly, B: Assembly> Pair<'_, A, B> {
 
     /// The number of terms of law `k`.
     pub fn law_len(&self, k: usize) -> Option<usize>
-        ensures { result ≡ option_map length (slice_get (joined_laws self.now.front self.now.back (A.Assembly.meaning self.now.first.now) (B.Assembly.meaning self.now.second.now)) k) }
+        ensures { let m = A.Assembly.meaning self.now.first.now in let n = B.Assembly.meaning self.now.second.now in
+            result ≡ option_map length (slice_get (joined_laws self.now.front self.now.back m n) k) }
     {
         let before = self.parts.first.laws;
         if k < before {
@@ -74,7 +78,8 @@ impl<A: Assembly, B: Assembly> Pair<'_, A, B> {
 
     /// Term `t` of law `k`.
     pub fn term(&self, k: usize, t: usize) -> Option<PlanTerm>
-        ensures { result ≡ slice_get (slice_index_or (joined_laws self.now.front self.now.back (A.Assembly.meaning self.now.first.now) (B.Assembly.meaning self.now.second.now)) k []) t }
+        ensures { let m = A.Assembly.meaning self.now.first.now in let n = B.Assembly.meaning self.now.second.now in
+            result ≡ slice_get (slice_index_or (joined_laws self.now.front self.now.back m n) k []) t }
     {
         let before = self.parts.first.laws;
         if k < before {

@@ -4,7 +4,7 @@ ghost use Rattle.netlist.specs.Sound.{is_domain, is_term_count};
 ghost use Rattle.parts.specs.Numbers.{domain_of};
 
 use netlist::domains::Domain;
-use netlist::terms::MOST_TERMS;
+use netlist::limits::MOST_TERMS;
 
 /// The domain of this number, if there is one.
 pub fn domain_of(number: u32) -> Option<Domain>

@@ -2,6 +2,7 @@
 ghost use Rattle.std.specs.Prelude.{◌≡◌, ◌≤◌, length};
 ghost use Rattle.netlist.specs.Sound.{is_domain};
 ghost use Rattle.std.specs.List.{list_all};
+ghost use Rattle.assembly.specs.Plans.{most_of_plan};
 ghost use Rattle.parts.specs.Tables.{begins, fill, size_told, is_sound};
 
 use super::numbers::{is_domain, is_term_count};
@@ -38,7 +39,7 @@ fn begins(at: usize, part: Span) -> bool
 // Whether the parts fill a table of `terms` terms, one after another. A `try_fold` would be no plainer, with a
 // step that fails and a sum in one closure.
 fn fills(parts: &[Span], terms: usize) -> bool
-    requires { length parts.now ≤ 6000 }
+    requires { length parts.now ≤ most_of_plan }
     ensures { result ≡ fill 0 parts.now terms }
 {
     let mut at = 0;

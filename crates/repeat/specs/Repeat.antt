@@ -1,5 +1,6 @@
 -- What copies of a part in series mean.
-use Rattle.std.specs.Prelude.{◌≡◌, ℕ, ◌+◌, ◌-◌, ◌*◌, ◌<◌, ◌≤◌, Bool, true, false, ◌&&◌, List, [], ◌∷◌, ◌++◌, Option, MatchOption, nat_le, slice_index_or}
+use Rattle.std.specs.Prelude.{◌≡◌, ℕ, ◌+◌, ◌-◌, ◌*◌, ◌<◌, ◌≤◌, Bool, true, false, ◌&&◌, List, [], ◌∷◌, ◌++◌}
+use Rattle.std.specs.Prelude.{Option, MatchOption, nat_le, slice_index_or}
 use Rattle.std.specs.List.{range_with_len, flat_map}
 use Rattle.assembly.specs.declared.plans.Size.{Size}
 use Rattle.assembly.specs.Meaning.{Meaning, void, plan, Plan, Bounded, size_in, is_small}
@@ -8,6 +9,7 @@ use Rattle.layers.specs.Renumbered.{absent, moved_rows, moved_laws}
 use Rattle.layers.specs.Layer.{layer_if, same_domain, domain_at, second_end}
 use Rattle.repeat.specs.declared.copies.Copies.{Copies}
 use Rattle.repeat.specs.declared.copies.Spot.{Spot}
+use Rattle.repeat.specs.Limits.{most_copies}
 
 -- The lists f 0, f 1, .. f (n - 1), one after the other.
 abbrev pub in_turn : {X : Type 0} → ℕ → (ℕ → List X) → List X
@@ -43,7 +45,7 @@ in_copies n a = record {
 
 -- There are 1 to 1,000 copies.
 abbrev pub is_count : ℕ → Bool
-is_count n = nat_le 1 n && nat_le n 1000
+is_count n = nat_le 1 n && nat_le n most_copies
 
 -- The part's two ends are of one domain.
 abbrev pub meet : Meaning → Bool
@@ -85,7 +87,7 @@ pub record Copied (n : ℕ) (m w : Meaning) (c : Copies) : Type 0 where
   pub whole_has : c.whole ≡ size_in (in_copies n one)
   pub one_bounds : Bounded one
   pub some : 1 ≤ n
-  pub few : n ≤ 1000
+  pub few : n ≤ most_copies
   pub small : is_small (size_in (in_copies n one)) ≡ true
 
 -- What a layer of copies tells: that it is void, or what it and one copy have.

@@ -1,10 +1,12 @@
 //! What copies have together, and where the things of each copy go.
 ghost use Rattle.std.specs.Prelude.{◌*◌, ◌≤◌};
+ghost use Rattle.assembly.specs.Plans.{most_of_plan};
+ghost use Rattle.repeat.specs.Limits.{most_copies};
 
 use assembly::plans::Size;
 use layers::renumbering::Renumbering;
 
-const MOST: usize = 1000;
+const MOST_COPIES: usize = 1000;
 
 /// What one copy has, how many there are, and what the layer has. Sixteen bits hold the layer's numbers.
 #[derive(Clone, Copy)]
@@ -12,9 +14,9 @@ pub struct Copies {
     pub part: Size,
     pub times: usize,
     pub whole: Size,
-    ghost few: { times ≤ 1000 },
-    ghost few_inner: { times * part.inner ≤ 6000 },
-    ghost few_variables: { times * part.variables ≤ 6000 },
+    ghost few: { times ≤ most_copies },
+    ghost few_inner: { times * part.inner ≤ most_of_plan },
+    ghost few_variables: { times * part.variables ≤ most_of_plan },
 }
 
 /// A place in one of the copies.
@@ -33,7 +35,7 @@ impl Copies {
     pub fn new(part: Size, times: usize) -> Option<Copies>
         ensures { SmallCopies times part result }
     {
-        if !(1..=MOST).contains(&times) {
+        if !(1..=MOST_COPIES).contains(&times) {
             return None;
         }
         if !part.is_small() {

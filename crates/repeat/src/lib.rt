@@ -16,6 +16,7 @@ use copies::Copies;
 use layers::domains::same_domain;
 use netlist::domains::Domain;
 
+/// So many copies of the part.
 #[derive(Clone, Copy)]
 pub struct Repeat<A> {
     pub part: A,

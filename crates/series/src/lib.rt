@@ -16,6 +16,7 @@ use layers::halves::Halves;
 use layers::pair::Pair;
 use netlist::domains::Domain;
 
+/// The second part behind the first.
 #[derive(Clone, Copy)]
 pub struct Series<A, B> {
     pub first: A,
@@ -46,7 +47,9 @@ impl<A: Assembly, B: Assembly> Series<A, B> {
     // The parts in their places, or `None` where the layer is void.
     fn pair(&self) -> Option<Pair<'_, A, B>>
         ensures { let whole = series (A.Assembly.meaning self.now.first) (B.Assembly.meaning self.now.second) in
-            MatchOption result (whole ≡ void) (λ pair. Joins in_series (A.Assembly.meaning pair.first.now) (B.Assembly.meaning pair.second.now) whole pair.parts pair.front pair.back) }
+            MatchOption result (whole ≡ void) (λ pair.
+            Joins in_series (A.Assembly.meaning pair.first.now) (B.Assembly.meaning pair.second.now)
+            whole pair.parts pair.front pair.back) }
     {
         let parts = self.halves()?;
         let joint = joint(parts);

@@ -15,6 +15,7 @@ use layers::halves::Halves;
 use layers::pair::Pair;
 use netlist::domains::Domain;
 
+/// The parts between the same ends.
 #[derive(Clone, Copy)]
 pub struct SideBySide<A, B> {
     pub one: A,
@@ -46,7 +47,9 @@ impl<A: Assembly, B: Assembly> SideBySide<A, B> {
     // The parts in their places, or `None` where the layer is void.
     fn pair(&self) -> Option<Pair<'_, A, B>>
         ensures { let whole = beside (A.Assembly.meaning self.now.one) (B.Assembly.meaning self.now.other) in
-            MatchOption result (whole ≡ void) (λ pair. Joins in_parallel (A.Assembly.meaning pair.first.now) (B.Assembly.meaning pair.second.now) whole pair.parts pair.front pair.back) }
+            MatchOption result (whole ≡ void) (λ pair.
+            Joins in_parallel (A.Assembly.meaning pair.first.now) (B.Assembly.meaning pair.second.now)
+            whole pair.parts pair.front pair.back) }
     {
         let parts = self.halves()?;
         Some(Pair {
