@@ -1,36 +1,38 @@
--- What a draft holds, and the netlist that this stands for.
+-- What tables hold, and the netlist that this stands for.
 use Rattle.std.specs.Prelude.{◌≡◌, true, List, map, vec_len}
+use Rattle.std.specs.List.{list_all}
 use Rattle.netlist.specs.declared.terms.Term.{Term}
 use Rattle.netlist.specs.Domains.{domain_number}
 use Rattle.netlist.specs.Flags.{Marked}
+use Rattle.netlist.specs.Limits.{most_nodes, most_variables, most_rows}
 use Rattle.netlist.specs.Netlist.{Netlist}
 use Rattle.netlist.specs.Pieces.{pieces}
 use Rattle.netlist.specs.Sound.{joins, names}
-use Rattle.std.specs.List.{list_all}
-use Rattle.sheet.specs.declared.drafts.Draft.TheInside.{Inside}
 use Rattle.sheet.specs.declared.laws.LawTable.{LawTable}
+use Rattle.sheet.specs.declared.tables.Tables.TheInside.{Inside}
 use Rattle.sheet.specs.Room.{Roomy}
+use Rattle.sheet.specs.Tiling.{lengths}
 
 abbrev pub laws_of : LawTable → List (List Term)
-laws_of t = pieces t.lengths.items t.terms.items
+laws_of t = pieces (lengths t.spans.items) t.terms.items
 
 abbrev pub netlist_of : Inside → Netlist
-netlist_of d = record {
-  domains = map domain_number d.domains.items;
-  variables = vec_len d.taken;
-  rows = d.rows.items;
-  laws = laws_of d.laws;
+netlist_of t = record {
+  domains = map domain_number t.domains.items;
+  variables = vec_len t.taken;
+  rows = t.rows.items;
+  laws = laws_of t.laws;
 }
 
--- what the tables of every draft keep to
-pub record Kept (d : Inside) : Type 0 where
+-- what all tables keep to
+pub record Kept (t : Inside) : Type 0 where
   -- each holds no more than its limit, and has room for that
-  pub nodes_fit : Roomy d.domains 1000
-  pub variables_fit : Roomy d.taken 4000
-  pub rows_fit : Roomy d.rows 1500
+  pub nodes_fit : Roomy t.domains most_nodes
+  pub variables_fit : Roomy t.taken most_variables
+  pub rows_fit : Roomy t.rows most_rows
   -- each row names drawn nodes, a branch two of one domain
-  pub joined : list_all (joins (map domain_number d.domains.items)) d.rows.items ≡ true
+  pub joined : list_all (joins (map domain_number t.domains.items)) t.rows.items ≡ true
   -- a variable's flag is up where a row has the variable
-  pub marked : Marked d.taken.items d.rows.items
+  pub marked : Marked t.taken.items t.rows.items
   -- each term names a drawn variable
-  pub named : list_all (names (vec_len d.taken)) d.laws.terms.items ≡ true
+  pub named : list_all (names (vec_len t.taken)) t.laws.terms.items ≡ true

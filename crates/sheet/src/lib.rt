@@ -1,10 +1,14 @@
-//! Plant sheets: a draft is filled by calls, each of which is judged first, and then issued.
+//! Plant sheets: the tables of a netlist, in memory that is reserved once, and sheets, which can only be read. Each
+//! step tests for itself whether it can be made. Nothing here knows of calls, drafts or refusals.
 #![tactic(auto)]
 
 pub mod counts;
-pub mod drafts;
 mod laws;
+pub mod sheets;
+pub mod tables;
+pub mod views;
 
 pub use counts::Counts;
-pub use drafts::Draft;
-pub use drafts::issued::Sheet;
+pub use sheets::Sheet;
+pub use tables::Tables;
+pub use views::LawView;
