@@ -1,2 +1,3 @@
 pub mod Tables
 pub mod Rooms
+pub mod Fitting

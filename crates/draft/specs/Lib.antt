@@ -1,3 +1,4 @@
 pub mod Refusals
 pub mod Rules
 pub mod Judging
+pub mod Counting

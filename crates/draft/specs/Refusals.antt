@@ -1,9 +1,11 @@
 -- The number and the place of each refusal of a draft's calls. The cause is always 0.
 use Rattle.std.specs.Prelude.{ℕ}
 use Rattle.draft.specs.declared.refusals.Argument.{Argument}
-use Rattle.draft.specs.declared.refusals.Argument.TheVariants.{Domain as DomainNumber, Flow, Across, First, Second, Node, Term as TermNumber}
+use Rattle.draft.specs.declared.refusals.Argument.TheVariants.{Domain as DomainNumber, Flow, Across}
+use Rattle.draft.specs.declared.refusals.Argument.TheVariants.{First, Second, Node, Term as TermNumber}
 use Rattle.draft.specs.declared.refusals.DraftRefusal.{DraftRefusal}
-use Rattle.draft.specs.declared.refusals.DraftRefusal.TheVariants.{Limit, NoNode, NoVariable, Domain, Taken, Coefficient, TermCount, Order}
+use Rattle.draft.specs.declared.refusals.DraftRefusal.TheVariants.{Limit, NoNode, NoVariable, Domain}
+use Rattle.draft.specs.declared.refusals.DraftRefusal.TheVariants.{Taken, Coefficient, TermCount, Order}
 use Rattle.draft.specs.declared.refusals.Table.{Table}
 use Rattle.draft.specs.declared.refusals.Table.TheVariants.{Nodes, Variables, Rows, Laws, Terms}
 

@@ -1,9 +1,12 @@
 -- When a call is refused, what it answers, and the netlist after it. Each call has a table: tests in
 -- their order, each with the refusal that it leads to.
-use Rattle.std.specs.Prelude.{ℕ, ◌+◌, Bool, not, ◌||◌, List, [], ◌∷◌, ◌++◌, length, Option, Result, ◌==◌, nat_le, nat_lt, slice_index}
-use Rattle.draft.specs.declared.refusals.Argument.TheVariants.{Domain as DomainNumber, Flow, Across, First, Second, Node, Term as TermNumber}
+use Rattle.std.specs.Prelude.{ℕ, ◌+◌, Bool, not, ◌||◌, List, [], ◌∷◌}
+use Rattle.std.specs.Prelude.{◌++◌, length, Option, Result, ◌==◌, nat_le, nat_lt, slice_index}
+use Rattle.draft.specs.declared.refusals.Argument.TheVariants.{Domain as DomainNumber, Flow, Across}
+use Rattle.draft.specs.declared.refusals.Argument.TheVariants.{First, Second, Node, Term as TermNumber}
 use Rattle.draft.specs.declared.refusals.DraftRefusal.{DraftRefusal}
-use Rattle.draft.specs.declared.refusals.DraftRefusal.TheVariants.{Limit, NoNode, NoVariable, Domain, Taken, Coefficient, TermCount, Order}
+use Rattle.draft.specs.declared.refusals.DraftRefusal.TheVariants.{Limit, NoNode, NoVariable, Domain}
+use Rattle.draft.specs.declared.refusals.DraftRefusal.TheVariants.{Taken, Coefficient, TermCount, Order}
 use Rattle.draft.specs.declared.refusals.Table.TheVariants.{Nodes, Variables, Rows, Laws, Terms}
 use Rattle.netlist.specs.declared.rows.Row.{Row}
 use Rattle.netlist.specs.declared.rows.Row.TheVariants.{Branch, Earth}
@@ -11,7 +14,8 @@ use Rattle.netlist.specs.declared.terms.RawTerm.{RawTerm}
 use Rattle.netlist.specs.declared.terms.Term.{Term}
 use Rattle.netlist.specs.Domains.{no_domain}
 use Rattle.netlist.specs.Netlist.{Netlist, term_count, with_nodes, with_variables, with_rows, with_laws}
-use Rattle.netlist.specs.Limits.{most_nodes, most_variables, most_rows, most_laws, most_terms, no_coefficient, no_term_count}
+use Rattle.netlist.specs.Limits.{most_nodes, most_variables, most_rows}
+use Rattle.netlist.specs.Limits.{most_laws, most_terms, no_coefficient, no_term_count}
 use Rattle.netlist.specs.Rows.{taken_by}
 use Rattle.refusal.specs.Tests.{Tests, first_of, answer, after}
 

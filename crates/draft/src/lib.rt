@@ -1,9 +1,11 @@
-//! Drafts of plant sheets: what can be wrong with a row or a law, and why it is refused.
+//! Drafts of plant sheets: the calls that fill one, and why a call is refused.
 #![tactic(auto)]
 
+pub mod drafts;
 pub mod laws;
 pub mod refusals;
 pub mod rows;
 pub mod settings;
 
+pub use drafts::Draft;
 pub use refusals::{Argument, DraftRefusal, Table};

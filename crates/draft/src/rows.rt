@@ -13,7 +13,8 @@ use netlist::rows::Row;
 
 /// Judges the nodes and variables that a row names.
 pub fn judge_row<G: Setting>(setting: &G, row: Row) -> Result<(), DraftRefusal>
-    ensures { Tells (first_of (row_tests (G.Setting.domains setting.now) (G.Setting.variables setting.now) (G.Setting.taken setting.now) row)) result }
+    ensures { Tells (first_of (row_tests (G.Setting.domains setting.now) (G.Setting.variables setting.now)
+        (G.Setting.taken setting.now) row)) result }
 {
     match row {
         Row::Branch {
@@ -45,7 +46,9 @@ pub fn find_node<G: Setting>(
     node: usize,
     argument: Argument,
 ) -> Result<Domain, DraftRefusal>
-    ensures { Accepts (first_of (node_tests (G.Setting.domains setting.now) node argument)) (λ domain. domain_of (G.Setting.domains setting.now) node ≡ domain_number domain) result }
+    ensures { let domains = G.Setting.domains setting.now in
+        Accepts (first_of (node_tests domains node argument))
+        (λ domain. domain_of domains node ≡ domain_number domain) result }
 {
     setting
         .domain(node)
@@ -53,7 +56,8 @@ pub fn find_node<G: Setting>(
 }
 
 fn judge_variables<G: Setting>(setting: &G, flow: usize, across: usize) -> Result<(), DraftRefusal>
-    ensures { Tells (first_of (variable_tests (G.Setting.variables setting.now) (G.Setting.taken setting.now) flow across)) result }
+    ensures { Tells (first_of (variable_tests (G.Setting.variables setting.now)
+        (G.Setting.taken setting.now) flow across)) result }
 {
     let flow_taken = setting.is_taken(flow).ok_or(DraftRefusal::NoVariable {
         argument: Argument::Flow,

@@ -14,9 +14,11 @@ pub trait Setting {
 
     /// The domain of a node, if it is drawn.
     fn domain(&self, node: usize) -> Option<Domain>
-        ensures { MatchOption result (length (domains self.now) ≤ node) (λ d. (node < length (domains self.now)) × (slice_index (domains self.now) node ≡ domain_number d)) };
+        ensures { MatchOption result (length (domains self.now) ≤ node)
+            (λ d. (node < length (domains self.now)) × (slice_index (domains self.now) node ≡ domain_number d)) };
 
     /// Whether a variable is taken, if it is drawn.
     fn is_taken(&self, variable: usize) -> Option<bool>
-        ensures { MatchOption result (variables self.now ≤ variable) (λ b. (variable < variables self.now) × (taken self.now variable ≡ b)) };
+        ensures { MatchOption result (variables self.now ≤ variable)
+            (λ b. (variable < variables self.now) × (taken self.now variable ≡ b)) };
 }
