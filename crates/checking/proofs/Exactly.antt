@@ -5,9 +5,9 @@ use Rattle.std.specs.Result.{IfOk}
 use Rattle.quantity.specs.Integers.{integers}
 use Rattle.quantity.specs.Wholes.{wholes}
 use Rattle.quantity.specs.declared.numbers.Whole.{Whole}
-use Rattle.draft.specs.declared.refusals.Refusal.{Refusal}
 use Rattle.netlist.specs.Netlist.{Netlist}
 use Rattle.netlist.specs.Sound.{Sound}
+use Rattle.network.specs.Readings.{Readings}
 use Rattle.network.specs.ReadingsAgree.{ReadingsAgree}
 use Rattle.network.specs.Flows.{NodesKeep}
 use Rattle.network.specs.Laws.{LawsHold}
@@ -16,9 +16,10 @@ use Rattle.network.proofs.Flowing.{sets_keep_as_nodes}
 use Rattle.readings.proofs.Drawing.{sound_drawn}
 use Rattle.walk_test.specs.Potentials.{potential_at}
 use Rattle.small_readings.specs.Small.{AreSmall}
-use Rattle.small_readings.specs.Exact.{values_of, over_integers, Exact}
+use Rattle.small_readings.specs.Exact.{values_of, integers_of, over_integers, Exact}
 use Rattle.small_readings.proofs.Bounds.{held_as_is}
 use Rattle.small_readings.proofs.Exactness.{small_is_exact}
+use Rattle.checking.specs.declared.refusals.CheckRefusal.{CheckRefusal}
 use Rattle.checking.specs.declared.verdicts.Verdict.{Verdict}
 use Rattle.checking.specs.declared.verdicts.Verdict.TheVariants.{Holds, Law, Node, Row}
 use Rattle.checking.specs.Checked.{Checked}
@@ -46,33 +47,33 @@ potential_value : (ps : List Whole) (v : ℕ) → (potential_at wholes ps v).val
 potential_value ps zero = zero_value
 potential_value ps (suc v) = read_value ps v
 
-module _ (b : Netlist) (sound : Sound b) (values rates : List Whole) (small_values : AreSmall values) (small_rates : AreSmall rates) where
-  exact : Exact b values rates
-  exact = small_is_exact b sound values rates small_values small_rates
+module _ (b : Netlist) (sound : Sound b) (r : Readings Whole) (small_values : AreSmall r.values) (small_rates : AreSmall r.rates) where
+  exact : Exact b r
+  exact = small_is_exact b sound r small_values small_rates
 
-  laws : (n : ℕ) → LawsHold wholes b.laws values rates n → LawsHold integers b.laws (values_of values) (values_of rates) n
+  laws : (n : ℕ) → LawsHold wholes b.laws r n → LawsHold integers b.laws (integers_of r) n
   laws n holds k l = (exact.laws k).0 (holds k l)
 
-  nodes : (n : ℕ) → NodesKeep wholes b.rows values n → NodesKeep integers b.rows (values_of values) n
+  nodes : (n : ℕ) → NodesKeep wholes b.rows r.values n → NodesKeep integers b.rows (values_of r.values) n
   nodes n keep u l = (exact.nodes u).0 (keep u l)
 
-  keeps : ReadingsAgree wholes b values rates → NodesKeep wholes b.rows values (length b.domains)
-  keeps balances = (sets_keep_as_nodes wholes b.rows values (length b.domains) (sound_drawn b sound)).0 balances.sets
+  keeps : ReadingsAgree wholes b r → NodesKeep wholes b.rows r.values (length b.domains)
+  keeps agree = (sets_keep_as_nodes wholes b.rows r.values (length b.domains) (sound_drawn b sound)).0 agree.sets
 
-  filled_integers : (ps : List Whole) → ReadingsAgree wholes b values rates → Filling wholes b values rates ps → Filling integers b (values_of values) (values_of rates) (values_of ps)
-  filled_integers ps balances filled =
+  filled_integers : (ps : List Whole) → ReadingsAgree wholes b r → Filling wholes b r ps → Filling integers b (integers_of r) (values_of ps)
+  filled_integers ps agree filled =
       let n = length b.domains in
-      let over = (exact.solved (length b.rows) (omega arith) (potential_at wholes ps)).0 (solved wholes b sound values rates ps balances.laws (keeps balances) filled) in
+      let over = (exact.solved (length b.rows) (omega arith) (potential_at wholes ps)).0 (solved wholes b sound r ps agree.laws (keeps agree) filled) in
       let same : (λ (v : ℕ). (potential_at wholes ps v).value) ≡ potential_at integers (values_of ps) = λ i v. potential_value ps v i in
-      filling integers b sound (values_of values) (values_of rates) (values_of ps) (laws (length b.laws) balances.laws) (nodes n (keeps balances))
-      (subst (Solved integers (over_integers b values) (n + 1) (length b.rows)) same over)
+      filling integers b sound (integers_of r) (values_of ps) (laws (length b.laws) agree.laws) (nodes n (keeps agree))
+      (subst (Solved integers (over_integers b r.values) (n + 1) (length b.rows)) same over)
 
-  judges : (ps : List Whole) (verdict : Verdict) → VerdictIs wholes b values rates verdict → Filled wholes b values rates ps verdict → JudgesIntegers b values rates ps verdict
-  judges ps Holds is filled = (exact.balances.0 is, filled_integers ps is filled)
+  judges : (ps : List Whole) (verdict : Verdict) → VerdictIs wholes b r verdict → Filled wholes b r ps verdict → JudgesIntegers b r ps verdict
+  judges ps Holds is filled = (exact.readings_agree.0 is, filled_integers ps is filled)
   judges ps (Law k) is filled = ((exact.first_law k).0 is, all_zero ps filled)
   judges ps (Node n) is filled = ((laws _ is.0, (exact.first_node _ n).0 is.1), all_zero ps filled)
   judges ps (Row k) is filled = ((laws _ is.0, nodes _ is.1, (exact.refuted k).0 is.2), all_zero ps filled)
 
-  pub judges_checked : (old new : List Whole) (answer : Result Verdict Refusal) → Checked wholes b values rates old new answer → IfOk answer (JudgesIntegers b values rates new)
+  pub judges_checked : (old new : List Whole) (answer : Result Verdict CheckRefusal) → Checked wholes b r old new answer → IfOk answer (JudgesIntegers b r new)
   judges_checked old new (Ok verdict) checked = judges new verdict checked.2 checked.3
   judges_checked old new (Err why) checked = tt

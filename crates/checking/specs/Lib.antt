@@ -1,4 +1,5 @@
 pub mod Verdicts
 pub mod Potentials
+pub mod Refusals
 pub mod Checked
 pub mod Integers

@@ -2,13 +2,15 @@
 ghost use Rattle.std.specs.Prelude.{IfOk};
 ghost use Rattle.quantity.specs.Wholes.{wholes};
 ghost use Rattle.small_readings.specs.Small.{AreSmall};
+ghost use Rattle.reading_sums.specs.Given.{given};
 ghost use Rattle.checking.specs.Checked.{Checked};
 ghost use Rattle.checking.specs.Integers.{JudgesIntegers};
 
 use crate::checks::check;
+use crate::refusals::CheckRefusal;
 use crate::verdicts::Verdict;
-use draft::refusals::Refusal;
 use quantity::Whole;
+use reading_sums::Readings;
 use sheet::Sheet;
 use walk_test::Workspace;
 
@@ -16,13 +18,13 @@ use walk_test::Workspace;
 /// the potentials are those over the unbounded integers.
 pub fn check_whole(
     sheet: &Sheet,
-    values: &[Whole],
-    rates: &[Whole],
+    readings: Readings<Whole>,
     potentials: &mut [Whole],
     workspace: &mut Workspace,
-) -> Result<Verdict, Refusal>
-    ensures checked { Checked wholes sheet.now values.now rates.now potentials.old potentials.new result }
-    ensures exact { AreSmall values.now → AreSmall rates.now → IfOk result (JudgesIntegers sheet.now values.now rates.now potentials.new) }
+) -> Result<Verdict, CheckRefusal>
+    ensures checked { Checked wholes sheet.now (given readings.entry) potentials.old potentials.new result }
+    ensures exact { let r = given readings.entry in
+        AreSmall r.values → AreSmall r.rates → IfOk result (JudgesIntegers sheet.now r potentials.new) }
 {
-    check(sheet, values, rates, potentials, workspace)
+    check(sheet, readings, potentials, workspace)
 }

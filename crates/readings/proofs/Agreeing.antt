@@ -1,4 +1,4 @@
--- The listed equations hold with some potentials exactly if the readings balance.
+-- The listed equations hold with some potentials exactly if the readings agree.
 use Rattle.std.proofs.Common.{◌≡◌, ℕ, zero, suc, ◌+◌, ◌-◌, ◌<◌, List, length, sym, ap, ◌∙◌, ap₂, ⊎_elim, add-one, arith}
 use Rattle.std.proofs.lemmas.Bool.{cases_lt}
 use Rattle.quantity.specs.Group.{Group, minus}
@@ -8,6 +8,7 @@ use Rattle.netlist.specs.Sound.{Sound}
 use Rattle.equation.specs.Equations.{equations_of}
 use Rattle.equation.proofs.Counting.{equations_are}
 use Rattle.equation.proofs.Finding.{law_at, node_at, row_at as row_equation_at}
+use Rattle.network.specs.Readings.{Readings}
 use Rattle.network.specs.ReadingsAgree.{ReadingsAgree}
 use Rattle.network.specs.Flows.{NodesKeep}
 use Rattle.network.specs.Laws.{LawsHold}
@@ -26,27 +27,27 @@ module _ {G : Type 0} (𝓖 : Group G) where
   same_vertex q earth zero = earth
   same_vertex q earth (suc u) = ap q (sym (add-one u))
 
-  module _ (b : Netlist) (sound : Sound b) (values rates : List G) where
+  module _ (b : Netlist) (sound : Sound b) (r : Readings G) where
     abbrev Rows : Network G
-    Rows = network_of 𝓖 b.rows values
+    Rows = network_of 𝓖 b.rows r.values
 
     count : length (equations_of b) ≡ length b.laws + length b.domains + length b.rows
     count = equations_are b sound
 
     module _ (p : ℕ → G) where
-      row_part : (j : ℕ) → j < length b.rows → comes_to 𝓖 b values rates p (length b.laws + (length b.domains + j)) ≡ minus 𝓖 (across_reading 𝓖 b values j) (difference_over 𝓖 b p j)
+      row_part : (j : ℕ) → j < length b.rows → comes_to 𝓖 b r p (length b.laws + (length b.domains + j)) ≡ minus 𝓖 (across_reading 𝓖 b r.values j) (difference_over 𝓖 b p j)
       row_part j l =
-          ap (equation_sum 𝓖 b.variables values rates p) (row_equation_at b.laws b.rows (length b.domains) b.variables j no_row l)
-          ∙ row_comes 𝓖 b.variables values rates p (row_at b.rows j) (across_drawn b sound j l)
+          ap (equation_sum 𝓖 b.variables r p) (row_equation_at b.laws b.rows (length b.domains) b.variables j no_row l)
+          ∙ row_comes 𝓖 b.variables r p (row_at b.rows j) (across_drawn b sound j l)
 
-      equation_parts : EquationParts 𝓖 b values rates p
+      equation_parts : EquationParts 𝓖 b r p
       equation_parts = record {
         law = λ k l.
-            ap (equation_sum 𝓖 b.variables values rates p) (law_at b.laws b.rows (length b.domains) b.variables k l)
-            ∙ law_comes 𝓖 b.variables values rates p _ (sound.laws k l).named;
+            ap (equation_sum 𝓖 b.variables r p) (law_at b.laws b.rows (length b.domains) b.variables k l)
+            ∙ law_comes 𝓖 b.variables r p _ (sound.laws k l).named;
         node = λ u l.
-            ap (equation_sum 𝓖 b.variables values rates p) (node_at b.laws b.rows (length b.domains) b.variables u l)
-            ∙ node_comes 𝓖 b.variables values rates p b.rows u (flow_drawn b sound);
+            ap (equation_sum 𝓖 b.variables r p) (node_at b.laws b.rows (length b.domains) b.variables u l)
+            ∙ node_comes 𝓖 b.variables r p b.rows u (flow_drawn b sound);
         row = row_part;
         row_holds = λ j l. (
           λ e. same_from_minus 𝓖 _ _ (sym (row_part j l) ∙ e),
@@ -54,19 +55,19 @@ module _ {G : Type 0} (𝓖 : Group G) where
         );
       }
 
-      balances_from : EquationsHold 𝓖 b values rates p → ReadingsAgree 𝓖 b values rates
-      balances_from holds =
+      agree_from : EquationsHold 𝓖 b r p → ReadingsAgree 𝓖 b r
+      agree_from holds =
           let parts = equation_parts in
           record {
             laws = λ k l. sym (parts.law k l) ∙ holds k (omega (arith, count));
-            sets = (sets_keep_as_nodes 𝓖 b.rows values (length b.domains) (sound_drawn b sound)).1
+            sets = (sets_keep_as_nodes 𝓖 b.rows r.values (length b.domains) (sound_drawn b sound)).1
                 (λ u l. sym (parts.node u l) ∙ holds (length b.laws + u) (omega (arith, count)));
             walks = potentials_close_walks 𝓖 Rows (length b.rows) (with_earth 𝓖 p)
                 (λ j l. (parts.row_holds j l).0 (holds (length b.laws + (length b.domains + j)) (omega (arith, count))));
           }
 
       -- equation i is a law's, a node's or a row's
-      pub holds_from : LawsHold 𝓖 b.laws values rates (length b.laws) → NodesKeep 𝓖 b.rows values (length b.domains) → Satisfies 𝓖 Rows (length b.rows) (with_earth 𝓖 p) → EquationsHold 𝓖 b values rates p
+      pub holds_from : LawsHold 𝓖 b.laws r (length b.laws) → NodesKeep 𝓖 b.rows r.values (length b.domains) → Satisfies 𝓖 Rows (length b.rows) (with_earth 𝓖 p) → EquationsHold 𝓖 b r p
       holds_from laws nodes rows i l =
           let parts = equation_parts in
           ⊎_elim
@@ -74,29 +75,29 @@ module _ {G : Type 0} (𝓖 : Group G) where
           (λ past. ⊎_elim
           (λ second.
           let at : i ≡ length b.laws + (i - length b.laws) = omega arith in
-          ap (comes_to 𝓖 b values rates p) at ∙ parts.node _ second ∙ nodes _ second)
+          ap (comes_to 𝓖 b r p) at ∙ parts.node _ second ∙ nodes _ second)
           (λ third.
           let j = i - length b.laws - length b.domains in
           let at : i ≡ length b.laws + (length b.domains + j) = omega arith in
           let within : j < length b.rows = omega (arith, count) in
-          ap (comes_to 𝓖 b values rates p) at ∙ (parts.row_holds j within).1 (rows j within))
+          ap (comes_to 𝓖 b r p) at ∙ (parts.row_holds j within).1 (rows j within))
           (cases_lt (i - length b.laws) (length b.domains)))
           (cases_lt i (length b.laws))
 
-    some_hold : ReadingsAgree 𝓖 b values rates → (p : ℕ → G) × EquationsHold 𝓖 b values rates p
-    some_hold balances =
+    some_hold : ReadingsAgree 𝓖 b r → (p : ℕ → G) × EquationsHold 𝓖 b r p
+    some_hold agree =
         let drawn = sound_drawn b sound in
-        let found = closing_has_potentials 𝓖 Rows (length b.domains + 1) (length b.rows) drawn balances.walks in
+        let found = closing_has_potentials 𝓖 Rows (length b.domains + 1) (length b.rows) drawn agree.walks in
         let q = found.0 in
         let earth : q 0 ≡ 𝓖.zero = found.1.grounded 0 (omega arith) (λ u s w. omega arith) in (
           λ u. q (u + 1),
-          holds_from (λ u. q (u + 1)) balances.laws
-              ((sets_keep_as_nodes 𝓖 b.rows values (length b.domains) drawn).0 balances.sets)
+          holds_from (λ u. q (u + 1)) agree.laws
+              ((sets_keep_as_nodes 𝓖 b.rows r.values (length b.domains) drawn).0 agree.sets)
               (λ j l. found.1.satisfies j l ∙ ap₂ (minus 𝓖) (same_vertex q earth (Rows.tail j)) (same_vertex q earth (Rows.head j))),
         )
 
   pub equations_by_part : EquationsByPart 𝓖
-  equations_by_part b sound values rates p = equation_parts b sound values rates p
+  equations_by_part b sound r p = equation_parts b sound r p
 
   pub equations_agree : EquationsAgree 𝓖
-  equations_agree b sound values rates = (λ some. balances_from b sound values rates some.0 some.1, some_hold b sound values rates)
+  equations_agree b sound r = (λ some. agree_from b sound r some.0 some.1, some_hold b sound r)

@@ -4,27 +4,28 @@
 
 ghost use Rattle.std.specs.Prelude.{◌≡◌};
 ghost use Rattle.network.specs.Walks.{read};
+ghost use Rattle.reading_sums.specs.Given.{given};
 ghost use Rattle.readings.specs.Agreement.{EquationsByPart, EquationsAgree};
 ghost use Rattle.readings.specs.Readings.{term_reading, equation_sum};
 ghost use Rattle.readings.specs.Turned.{EquationsTurn};
 
 use netlist::terms::Term;
 use quantity::Quantity;
-use reading_sums::{reading, value_or_rate};
+use reading_sums::{Readings, reading, value_or_rate};
 
 // What a term of an equation reads: of so many variables the value or the rate of one, or else the potential
 // of a node.
 fn term_reading<K: Quantity>(
     term: Term,
     variables: usize,
-    values: &[K],
-    rates: &[K],
+    readings: Readings<K>,
     potentials: &[K],
 ) -> K
-    ensures { result ≡ term_reading K.group variables values.now rates.now (read K.group potentials.now) term }
+    ensures { result ≡
+        term_reading K.group variables (given readings.entry) (read K.group potentials.now) term }
 {
     if term.variable < variables {
-        value_or_rate(term, values, rates)
+        value_or_rate(term, readings)
     } else {
         reading(potentials, term.variable - variables)
     }
@@ -35,17 +36,17 @@ fn term_reading<K: Quantity>(
 pub fn equation_sum<K: Quantity>(
     equation: &[Term],
     variables: usize,
-    values: &[K],
-    rates: &[K],
+    readings: Readings<K>,
     potentials: &[K],
 ) -> K
-    ensures value { result ≡ equation_sum K.group variables values.now rates.now (read K.group potentials.now) equation.now }
+    ensures value { result ≡
+        equation_sum K.group variables (given readings.entry) (read K.group potentials.now) equation.now }
     ensures by_part { EquationsByPart K.group }
     ensures agree { EquationsAgree K.group }
 {
     let mut sum = K::zero();
     for term in equation {
-        let read = term_reading(*term, variables, values, rates, potentials);
+        let read = term_reading(*term, variables, readings, potentials);
         sum = sum.sum(read.multiple(term.coefficient));
     }
     sum
