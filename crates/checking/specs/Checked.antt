@@ -1,5 +1,5 @@
 -- What a check answers, and what it leaves in the buffer of potentials.
-use Rattle.std.specs.Prelude.{◌≡◌, ℕ, not, ◌||◌, List, [], ◌∷◌, length, Some, None, Option, Result, Ok, Err, ◌==◌}
+use Rattle.std.specs.Prelude.{◌≡◌, ℕ, Bool, not, ◌||◌, List, [], ◌∷◌, length, Some, None, Option, Result, Ok, Err, ◌==◌}
 use Rattle.quantity.specs.Group.{Group}
 use Rattle.netlist.specs.Netlist.{Netlist}
 use Rattle.refusal.specs.Tests.{Tests, first_of}
@@ -10,13 +10,16 @@ use Rattle.checking.specs.declared.verdicts.Verdict.{Verdict}
 use Rattle.checking.specs.Verdicts.{VerdictIs}
 use Rattle.checking.specs.Potentials.{Filled}
 
--- check(readings, potentials): a value and a rate for each variable, and a potential for each node
-abbrev pub table_check : {G : Type 0} → Netlist → Readings G → ℕ → Tests CheckRefusal
-table_check b r potentials =
-    (not (length r.values == b.variables)
+-- there is not a value and a rate for each variable, or not a potential for each node
+abbrev pub is_miscounted : {G : Type 0} → Netlist → Readings G → ℕ → Bool
+is_miscounted b r potentials =
+    not (length r.values == b.variables)
     || not (length r.rates == b.variables)
-    || not (potentials == length b.domains), WrongCount)
-    ∷ []
+    || not (potentials == length b.domains)
+
+-- check(readings, potentials)
+abbrev pub table_check : {G : Type 0} → Netlist → Readings G → ℕ → Tests CheckRefusal
+table_check b r potentials = (is_miscounted b r potentials, WrongCount) ∷ []
 
 abbrev pub judge_check : {G : Type 0} → Netlist → Readings G → ℕ → Option CheckRefusal
 judge_check b r potentials = first_of (table_check b r potentials)

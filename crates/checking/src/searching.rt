@@ -9,7 +9,7 @@ use reading_sums::{Readings, law_sum, node_excess};
 use sheet::Sheet;
 
 // The lowest law that fails.
-#[tactic(auto, using(netlist::proofs::Cuts::length_pieces))]
+#[tactic(auto, using(sheet::proofs::Tiling::law_count_in))]
 pub(crate) fn first_law<K: Quantity>(sheet: &Sheet, readings: Readings<K>) -> Option<usize>
     ensures { let laws = sheet.now.laws in
         let r = given readings.entry in
