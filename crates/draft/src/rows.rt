@@ -40,8 +40,8 @@ pub fn judge_row<G: Setting>(setting: &G, row: Row) -> Result<(), DraftRefusal>
     }
 }
 
-/// The domain of a node that an argument names, if it is drawn.
-pub fn find_node<G: Setting>(
+// The domain of a node that an argument names, if it is drawn.
+fn find_node<G: Setting>(
     setting: &G,
     node: usize,
     argument: Argument,

@@ -5,13 +5,14 @@ use Rattle.std.specs.Option.{option_map, option_or}
 use Rattle.std.proofs.lemmas.Bool.{cond-false, lt-leb}
 use Rattle.std.proofs.lemmas.List.{append-nil, append_assoc, map_push, length-append, length-map, length-take-le, take-map}
 use Rattle.std.proofs.lemmas.Option.{slice_get_within, slice_get-map}
-use Rattle.draft.specs.declared.refusals.Refusal.{Refusal}
-use Rattle.draft.specs.declared.refusals.Refusal.TheVariants.{PlanRow, PlanLaw}
+use Rattle.draft.specs.declared.refusals.DraftRefusal.{DraftRefusal}
+use Rattle.plan_judging.specs.declared.refusals.PlaceRefusal.{PlaceRefusal}
+use Rattle.plan_judging.specs.declared.refusals.PlaceRefusal.TheVariants.{Row as RowRefused, Law as LawRefused}
 use Rattle.netlist.specs.declared.rows.Row.{Row}
 use Rattle.netlist.specs.declared.terms.RawTerm.{RawTerm}
 use Rattle.netlist.specs.declared.terms.Term.{Term}
 use Rattle.netlist.specs.Netlist.{Netlist, term_of, term_count, with_nodes, with_rows, with_laws}
-use Rattle.draft.specs.Refusals.{number}
+use Rattle.netlist.specs.Limits.{most_rows, most_laws, most_terms}
 use Rattle.draft.specs.Rules.{table_row, room_row, judge_row, table_law, room_law, judge_law}
 use Rattle.refusal.specs.Tests.{first_of}
 use Rattle.draft.proofs.Rooms.{room_left}
@@ -35,7 +36,7 @@ module _ {X : Type 0} (b : Netlist) (xs : List X) (k : ℕ) (x : X) (at : slice_
   row_more f = λ i. record { domains = b.domains; variables = b.variables; rows = one_more f b.rows xs k x at i; laws = b.laws }
 
 -- where nothing is refused, neither is the first nor the rest
-nothing : (f : Refusal → Refusal) (o p : Option Refusal) → option_or (option_map f o) p ≡ None → (o ≡ None) × (p ≡ None)
+nothing : (f : DraftRefusal → PlaceRefusal) (o : Option DraftRefusal) (p : Option PlaceRefusal) → option_or (option_map f o) p ≡ None → (o ≡ None) × (p ≡ None)
 nothing f None p h = (refl, h)
 nothing f (Some why) p h = let z : ◌≡◌ {A = ℕ} 0 1 = cc in absurd (omega arith)
 
@@ -43,20 +44,20 @@ nothing f (Some why) p h = let z : ◌≡◌ {A = ℕ} 0 1 = cc in absurd (omega
 pub row_passed : (b : Netlist) (j : ℕ) (rows : List (Row ℕ)) (k : ℕ) (row : Row ℕ) → judge_rows b j rows ≡ None → slice_get rows k ≡ Some row → first_of (table_row (with_rows b (take k rows)) row) ≡ None
 row_passed b j [] k row h at = let z : ◌≡◌ {A = ℕ} 0 1 = cc in absurd (omega arith)
 row_passed b j (r ∷ rows) zero row h at =
-    let p = nothing (λ why. PlanRow j (number why)) _ _ h in
+    let p = nothing (λ why. RowRefused j why) _ _ h in
     let e : r ≡ row = cc in
     ap (λ (rows : List (Row ℕ)). first_of (table_row (record { domains = b.domains; variables = b.variables; rows = rows; laws = b.laws }) row)) (append-nil b.rows)
     ∙ ap (λ (s : Row ℕ). first_of (table_row b s)) (sym e)
     ∙ p.0
 row_passed b j (r ∷ rows) (suc k) row h at =
-    let p = nothing (λ why. PlanRow j (number why)) _ _ h in
+    let p = nothing (λ why. RowRefused j why) _ _ h in
     ap (λ (rows : List (Row ℕ)). first_of (table_row (record { domains = b.domains; variables = b.variables; rows = rows; laws = b.laws }) row)) (sym (append_assoc b.rows (r ∷ []) (take k rows)))
     ∙ row_passed (with_rows b (r ∷ [])) (j + 1) rows k row p.1 at
 
-pub row_drawn : (b : Netlist) (row : Row ℕ) → first_of (table_row b row) ≡ None → length b.rows < 1500 → judge_row b row ≡ None
-row_drawn b row h room = passed_over (table_row b row) (room_row b.rows) h ∙ cond-false _ _ _ (lt-leb 1500 (length b.rows) room)
+pub row_drawn : (b : Netlist) (row : Row ℕ) → first_of (table_row b row) ≡ None → length b.rows < most_rows → judge_row b row ≡ None
+row_drawn b row h room = passed_over (table_row b row) (room_row b.rows) h ∙ cond-false _ _ _ (lt-leb most_rows (length b.rows) room)
 
-pub law_drawn : (b : Netlist) (ts : List (RawTerm ℕ)) → first_of (table_law b.variables ts) ≡ None → length b.laws < 1500 → term_count b.laws + length ts ≤ 6000 → judge_law b ts ≡ None
+pub law_drawn : (b : Netlist) (ts : List (RawTerm ℕ)) → first_of (table_law b.variables ts) ≡ None → length b.laws < most_laws → term_count b.laws + length ts ≤ most_terms → judge_law b ts ≡ None
 law_drawn b ts h laws terms = passed_over (table_law b.variables ts) (room_law b.laws (length ts)) h ∙ room_left b.laws (length ts) laws terms
 
 -- each law passes by itself
@@ -64,12 +65,12 @@ pub law_passed : (n j : ℕ) (laws : List (List (RawTerm ℕ))) (k : ℕ) (law :
 law_passed n j [] k law h at = let z : ◌≡◌ {A = ℕ} 0 1 = cc in absurd (omega arith)
 law_passed n j (l ∷ laws) zero law h at =
     let e : l ≡ law = cc in
-    ap (λ (ts : List (RawTerm ℕ)). first_of (table_law n ts)) (sym e) ∙ (nothing (λ why. PlanLaw j (number why)) _ _ h).0
-law_passed n j (l ∷ laws) (suc k) law h at = law_passed n (j + 1) laws k law (nothing (λ why. PlanLaw j (number why)) _ _ h).1 at
+    ap (λ (ts : List (RawTerm ℕ)). first_of (table_law n ts)) (sym e) ∙ (nothing (λ why. LawRefused j why) _ _ h).0
+law_passed n j (l ∷ laws) (suc k) law h at = law_passed n (j + 1) laws k law (nothing (λ why. LawRefused j why) _ _ h).1 at
 
 -- the next row, and the next law, of all that have passed
 module _ {X : Type 0} (b : Netlist) (f : X → Row ℕ) (xs : List X) (k : ℕ) (x : X) (at : slice_get xs k ≡ Some x) where
-  pub next_row : judge_rows b 0 (map f xs) ≡ None → length b.rows + length xs ≤ 1500 → judge_row (with_rows b (map f (take k xs))) (f x) ≡ None
+  pub next_row : judge_rows b 0 (map f xs) ≡ None → length b.rows + length xs ≤ most_rows → judge_row (with_rows b (map f (take k xs))) (f x) ≡ None
   next_row passed room =
       let within = slice_get_within xs k x at in
       row_drawn (with_rows b (map f (take k xs))) (f x)
@@ -89,7 +90,7 @@ module _ (b : Netlist) (f : List (RawTerm ℕ) → List (RawTerm ℕ)) (same : (
   how_long : term_count new + length (f x) ≤ term_count xs
   how_long = omega (arith, count_map (map term_of) (λ ts. length-map ts term_of) (map f (take k xs)), count_map f same (take k xs), same x, count_next xs k x at, count_take (k + 1) xs)
 
-  pub next_law : judge_laws b.variables 0 (map f xs) ≡ None → length b.laws + length xs ≤ 1500 → term_count b.laws + term_count xs ≤ 6000 → judge_law (with_laws b (map f (take k xs))) (f x) ≡ None
+  pub next_law : judge_laws b.variables 0 (map f xs) ≡ None → length b.laws + length xs ≤ most_laws → term_count b.laws + term_count xs ≤ most_terms → judge_law (with_laws b (map f (take k xs))) (f x) ≡ None
   next_law passed room terms =
       law_drawn (with_laws b (map f (take k xs))) (f x)
       (law_passed b.variables 0 (map f xs) k (f x) passed (slice_get-map f xs k ∙ ap (option_map f) at))

@@ -3,37 +3,36 @@ use Rattle.std.proofs.Common.{◌≡◌, ℕ, ◌+◌, List, [], ◌∷◌, ◌+
 use Rattle.std.specs.Option.{option_or}
 use Rattle.std.proofs.lemmas.Bool.{leb-false, eqb-true, not-false}
 use Rattle.netlist.specs.declared.domains.Domain.{Domain}
-use Rattle.draft.specs.declared.refusals.Refusal.{Refusal}
+use Rattle.plan_judging.specs.declared.refusals.PlaceRefusal.{PlaceRefusal}
 use Rattle.netlist.specs.declared.rows.Row.{Row}
 use Rattle.netlist.specs.Domains.{domain_number}
 use Rattle.netlist.specs.Netlist.{Netlist, term_count}
 use Rattle.refusal.specs.Tests.{first_of}
 use Rattle.netlist.specs.Sound.{Sound}
 use Rattle.refusal.proofs.Tables.{passes}
-use Rattle.sheet.specs.Counting.{room_tests}
 use Rattle.assembly.specs.declared.plans.Size.{Size}
 use Rattle.assembly.specs.Meaning.{Meaning, void, plan, Plan, Bounded, Proper, size_in, size_of, laws_of}
 use Rattle.plan_judging.specs.Alone.{judge_rows, judge_laws, judge_alone, judge_assembly}
 use Rattle.place.specs.Moved.{moved_row, moved_rows, moved_laws, widened, with_plan}
 use Rattle.place.specs.Parts.{plan_of, judge_void_ends}
-use Rattle.place.specs.Place.{drawn_tests, end_tests, judge_ends, judge_limits, judge_placing, judge_place, with_assembly}
+use Rattle.place.specs.Place.{drawn_tests, end_tests, judge_ends, judge_room, judge_limits, judge_placing, judge_place, with_assembly}
 use Rattle.place.proofs.Matching.{Meets, rows_there, laws_there}
 
-or_assoc : (o p q : Option Refusal) → option_or o (option_or p q) ≡ option_or (option_or o p) q
+or_assoc : (o p q : Option PlaceRefusal) → option_or o (option_or p q) ≡ option_or (option_or o p) q
 or_assoc None p q = refl
 or_assoc (Some why) p q = refl
 
-or_none : (o p : Option Refusal) → option_or o p ≡ None → (o ≡ None) × (p ≡ None)
+or_none : (o p : Option PlaceRefusal) → option_or o p ≡ None → (o ≡ None) × (p ≡ None)
 or_none None p h = (refl, h)
 or_none (Some why) p h = let z : ◌≡◌ {A = ℕ} 0 1 = cc in absurd (omega arith)
 
 -- what a plan of this size adds is what the plan adds
 limits_are : (b : Netlist) (m : Meaning) (size : Size) → size_of m ≡ Some size
-    → first_of (room_tests b (record { nodes = size.inner; variables = size.variables; rows = size.rows; laws = size.laws }) (term_count (laws_of m))) ≡ judge_limits b (plan_of m)
+    → judge_room b (record { nodes = size.inner; variables = size.variables; rows = size.rows; laws = size.laws }) (term_count (laws_of m)) ≡ judge_limits b (plan_of m)
 limits_are b void size h = let z : ◌≡◌ {A = ℕ} 0 1 = cc in absurd (omega arith)
 limits_are b (plan p) size h =
     let same : size ≡ size_in p = cc in
-    ap (λ (s : Size). first_of (room_tests b (record { nodes = s.inner; variables = s.variables; rows = s.rows; laws = s.laws }) (term_count p.laws))) same
+    ap (λ (s : Size). judge_room b (record { nodes = s.inner; variables = s.variables; rows = s.rows; laws = s.laws }) (term_count p.laws)) same
 
 module _ (b : Netlist) (sound : Sound b) (first second : ℕ) where
   -- the plan's rows are judged on the netlist as on the plan
@@ -63,22 +62,22 @@ module _ (b : Netlist) (sound : Sound b) (first second : ℕ) where
       let rows = judge_rows (widened b p) 0 (moved_rows b (first ∷ second ∷ []) p) in
       let laws = judge_laws (b.variables + p.variables) 0 (moved_laws b p) in
       let limits = judge_limits b p in
-      ap (λ (o : Option Refusal). option_or o (option_or rows (option_or laws limits))) h
+      ap (λ (o : Option PlaceRefusal). option_or o (option_or rows (option_or laws limits))) h
       ∙ or_assoc rows laws limits
-      ∙ ap (λ (o : Option Refusal). option_or o limits) (sym (alone_there p bounded h))
+      ∙ ap (λ (o : Option PlaceRefusal). option_or o limits) (sym (alone_there p bounded h))
 
   pub place_judged : (m : Meaning) → Proper m → judge_void_ends b (first ∷ second ∷ []) m ≡ None → judge_place b m (first ∷ second ∷ []) ≡ option_or (judge_assembly m) (judge_limits b (plan_of m))
   place_judged void proper h = let z : ◌≡◌ {A = ℕ} 0 1 = cc in absurd (omega arith)
   place_judged (plan p) proper h = plan_judged p proper h
 
   -- what is wrong with the plan alone is wrong there
-  pub stops_inside : (m : Meaning) (why : Refusal) → Proper m → judge_void_ends b (first ∷ second ∷ []) m ≡ None → judge_assembly m ≡ Some why → judge_place b m (first ∷ second ∷ []) ≡ Some why
-  stops_inside m why proper h k = place_judged m proper h ∙ ap (λ (o : Option Refusal). option_or o (judge_limits b (plan_of m))) k
+  pub stops_inside : (m : Meaning) (why : PlaceRefusal) → Proper m → judge_void_ends b (first ∷ second ∷ []) m ≡ None → judge_assembly m ≡ Some why → judge_place b m (first ∷ second ∷ []) ≡ Some why
+  stops_inside m why proper h k = place_judged m proper h ∙ ap (λ (o : Option PlaceRefusal). option_or o (judge_limits b (plan_of m))) k
 
   -- and what passes alone is left to the room
   pub left_to_room : (m : Meaning) (size : Size) → Proper m → judge_void_ends b (first ∷ second ∷ []) m ≡ None → judge_assembly m ≡ None → size_of m ≡ Some size
-      → judge_place b m (first ∷ second ∷ []) ≡ first_of (room_tests b (record { nodes = size.inner; variables = size.variables; rows = size.rows; laws = size.laws }) (term_count (laws_of m)))
-  left_to_room m size proper h k s = place_judged m proper h ∙ ap (λ (o : Option Refusal). option_or o (judge_limits b (plan_of m))) k ∙ sym (limits_are b m size s)
+      → judge_place b m (first ∷ second ∷ []) ≡ judge_room b (record { nodes = size.inner; variables = size.variables; rows = size.rows; laws = size.laws }) (term_count (laws_of m))
+  left_to_room m size proper h k s = place_judged m proper h ∙ ap (λ (o : Option PlaceRefusal). option_or o (judge_limits b (plan_of m))) k ∙ sym (limits_are b m size s)
 
   -- where its rows and laws pass
   pub passed_there : (m : Meaning) → Proper m → judge_void_ends b (first ∷ second ∷ []) m ≡ None → judge_assembly m ≡ None

@@ -6,13 +6,13 @@ use Rattle.std.proofs.lemmas.Bool.{cond-false, le-ltb, lt-leb}
 use Rattle.std.proofs.lemmas.List.{length-append, length-map, get_or_append_left, get_or-append-add}
 use Rattle.netlist.specs.declared.domains.Domain.{Domain}
 use Rattle.draft.specs.declared.refusals.Argument.TheVariants.{Flow, Across, First, Second, Node, Term as TermNumber}
-use Rattle.draft.specs.declared.refusals.Refusal.TheVariants.{NoNode, NoVariable, Domain as DomainDiffers, Taken, Coefficient, TermCount, Order, PlanRow, PlanLaw}
+use Rattle.draft.specs.declared.refusals.DraftRefusal.TheVariants.{NoNode, NoVariable, Domain as DomainDiffers, Taken, Coefficient, TermCount, Order}
+use Rattle.plan_judging.specs.declared.refusals.PlaceRefusal.TheVariants.{Row as RowRefused, Law as LawRefused}
 use Rattle.netlist.specs.declared.rows.Row.{Row}
 use Rattle.netlist.specs.declared.rows.Row.TheVariants.{Branch, Earth}
 use Rattle.netlist.specs.declared.terms.RawTerm.{RawTerm}
 use Rattle.netlist.specs.declared.terms.Term.{Term}
 use Rattle.netlist.specs.Domains.{domain_number}
-use Rattle.draft.specs.Refusals.{number}
 use Rattle.netlist.specs.Rows.{bit, hits, uses, taken_by}
 use Rattle.draft.specs.Rules.{no_node, domain_of, row_tests, table_terms, table_law}
 use Rattle.netlist.specs.Limits.{no_coefficient, no_term_count}
@@ -94,7 +94,7 @@ module _ (domains : List ℕ) (first second : ℕ) (d e : Domain) (inner : List 
   rows_there xs ys laws laws' k (row ∷ rows) same =
       let here = row_there (taken_by xs) (taken_by ys) (λ w i. nat_lt 0 (same w i)) row in
       let next = λ (w : ℕ). uses_push xs row w ∙ (λ i. same w i + hits_there row w i) ∙ sym (uses_push ys (move row) (v + w)) in
-      λ i. option_or (option_map (λ why. PlanRow k (number why)) (here i)) (rows_there (xs ++ row ∷ []) (ys ++ move row ∷ []) laws laws' (k + 1) rows next i)
+      λ i. option_or (option_map (λ why. RowRefused k why) (here i)) (rows_there (xs ++ row ∷ []) (ys ++ move row ∷ []) laws laws' (k + 1) rows next i)
 
 -- a law is judged alike
 terms_there : (v n i : ℕ) (law : List (RawTerm ℕ)) → table_terms n i law ≡ table_terms (v + n) i (law_from v law)
@@ -112,4 +112,4 @@ law_there v n law =
 
 pub laws_there : (v n k : ℕ) (laws : List (List (RawTerm ℕ))) → judge_laws n k laws ≡ judge_laws (v + n) k (map (law_from v) laws)
 laws_there v n k [] = refl
-laws_there v n k (law ∷ laws) = λ i. option_or (option_map (λ why. PlanLaw k (number why)) (first_of (law_there v n law i))) (laws_there v n (k + 1) laws i)
+laws_there v n k (law ∷ laws) = λ i. option_or (option_map (λ why. LawRefused k why) (first_of (law_there v n law i))) (laws_there v n (k + 1) laws i)

@@ -1,21 +1,23 @@
 //! The nodes that an assembly's ends are placed at.
-ghost use Rattle.std.specs.Prelude.{◌≡◌, [], ◌∷◌, Some};
+ghost use Rattle.std.specs.Prelude.{◌≡◌, [], ◌∷◌};
 ghost use Rattle.netlist.specs.Domains.{domain_number};
+ghost use Rattle.draft.specs.Rules.{domain_of};
 ghost use Rattle.refusal.specs.Tests.{first_of};
 ghost use Rattle.refusal.specs.Answers.{Accepts, Tells};
-ghost use Rattle.assembly.specs.Meaning.{Proper, size_of};
-ghost use Rattle.place.specs.Parts.{judge_void_ends, domain_tests};
+ghost use Rattle.assembly.specs.Meaning.{Proper};
+ghost use Rattle.place.specs.Parts.{judge_void_ends, TellsSize};
+ghost use Rattle.place.specs.Place.{node_tests, domain_tests};
 
 use assembly::Assembly;
 use assembly::plans::Size;
-use draft::rows::find_node;
+use draft::Draft;
+use draft::settings::Setting;
 use netlist::domains::Domain;
-use draft::refusals::{Argument, Refusal};
-use sheet::Draft;
+use plan_judging::PlaceRefusal;
 
-const FIRST: Argument = Argument::End { end: 0 };
+const FIRST: u8 = 0;
 
-const SECOND: Argument = Argument::End { end: 1 };
+const SECOND: u8 = 1;
 
 // Refuses a void assembly, a node that is not drawn, and one that has another domain than its end. Else it
 // answers the size of the plan.
@@ -25,12 +27,13 @@ pub(crate) fn judge_ends<A: Assembly>(
     part: &A,
     first: usize,
     second: usize,
-) -> Result<Size, Refusal>
-    ensures judged { Accepts (judge_void_ends draft.now (first ∷ second ∷ []) (A.Assembly.meaning part.now)) (λ size. size_of (A.Assembly.meaning part.now) ≡ Some size) result }
+) -> Result<Size, PlaceRefusal>
+    ensures judged { let m = A.Assembly.meaning part.now in
+        TellsSize m (judge_void_ends draft.now (first ∷ second ∷ []) m) result }
     ensures proper { Proper (A.Assembly.meaning part.now) }
 {
     let Some(size) = part.size() else {
-        return Err(Refusal::Void);
+        return Err(PlaceRefusal::Void);
     };
     let first_end = part.domain(0).unwrap();
     let second_end = part.domain(1).unwrap();
@@ -41,12 +44,20 @@ pub(crate) fn judge_ends<A: Assembly>(
     Ok(size)
 }
 
-// A node that is drawn has the domain of the end placed at it.
-fn judge_domain(drawn: Domain, end: Domain, argument: Argument) -> Result<(), Refusal>
-    ensures { Tells (first_of (domain_tests (domain_number drawn) end argument)) result }
+// The domain of the node given for an end, if it is drawn.
+fn find_node(draft: &Draft, node: usize, end: u8) -> Result<Domain, PlaceRefusal>
+    ensures { Accepts (first_of (node_tests draft.now.domains end node))
+        (λ domain. domain_of draft.now.domains node ≡ domain_number domain) result }
 {
-    if drawn != end {
-        return Err(Refusal::Domain { argument });
+    draft.domain(node).ok_or(PlaceRefusal::NoNode { end })
+}
+
+// A node that is drawn has the domain of the end placed at it.
+fn judge_domain(drawn: Domain, domain: Domain, end: u8) -> Result<(), PlaceRefusal>
+    ensures { Tells (first_of (domain_tests (domain_number drawn) domain end)) result }
+{
+    if drawn != domain {
+        return Err(PlaceRefusal::Domain { end });
     }
     Ok(())
 }

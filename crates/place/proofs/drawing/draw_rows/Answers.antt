@@ -1,7 +1,7 @@
 use Rattle.std.proofs.Common.{◌≡◌, [], ◌∷◌, length, Some, Option, ap, ◌∙◌, arith}
 use Rattle.std.specs.List.{slice_get}
 use Rattle.std.specs.Result.{is_ok}
-use Rattle.draft.specs.declared.refusals.Refusal.{Refusal}
+use Rattle.draft.specs.declared.refusals.DraftRefusal.{DraftRefusal}
 use Rattle.netlist.specs.Netlist.{with_rows}
 use Rattle.draft.specs.Rules.{judge_row}
 use Rattle.refusal.specs.Tests.{answer, after}
@@ -19,7 +19,7 @@ unwrap-requires g c =
     let rows = rows_of (g.A.Assembly.meaning c.args.part.now) in
     let at : slice_get rows k ≡ Some row = cc in
     let judged = (λ i. judge_row (c.loop-k.invariant i) (c.row-in-loop-k.ensures i)) ∙ next_row c.args.draft.now f rows k row at c.requires.passed (omega arith) in
-    ap is_ok (c.draw_row.ensures.answer ∙ ap (λ (o : Option Refusal). answer o (length b.rows)) judged)
+    ap is_ok (c.draw_row.ensures.answer ∙ ap (λ (o : Option DraftRefusal). answer o (length b.rows)) judged)
 
 pub loop-k-preserved : goal.loop-k-preserved
 loop-k-preserved g c =
@@ -31,6 +31,6 @@ loop-k-preserved g c =
     let at : slice_get rows k ≡ Some row = cc in
     let judged = (λ i. judge_row (c.loop-k.invariant i) (c.row-in-loop-k.ensures i)) ∙ next_row c.args.draft.now f rows k row at c.requires.passed (omega arith) in
     c.draw_row.ensures.netlist
-    ∙ ap (λ (o : Option Refusal). after o b (with_rows b (c.row-in-loop-k.result ∷ []))) judged
+    ∙ ap (λ (o : Option DraftRefusal). after o b (with_rows b (c.row-in-loop-k.result ∷ []))) judged
     ∙ (λ i. with_rows (c.loop-k.invariant i) (c.row-in-loop-k.ensures i ∷ []))
     ∙ row_more c.args.draft.now rows k row at f
