@@ -5,9 +5,9 @@ use Rattle.std.proofs.lemmas.List.{length-append}
 use Rattle.netlist.specs.declared.terms.Order.{Order}
 use Rattle.netlist.specs.declared.terms.Order.TheVariants.{Value as ByValue, Rate as ByRate}
 use Rattle.netlist.specs.declared.terms.Term.{Term}
-use Rattle.spelling.specs.declared.quantities.Quantity.{Quantity}
-use Rattle.spelling.specs.declared.quantities.Quantity.TheVariants.{Value, Rate, Potential}
-use Rattle.spelling.specs.Quantities.{of_variable, quantity, letter, number}
+use Rattle.spelling.specs.declared.symbols.Symbol.{Symbol}
+use Rattle.spelling.specs.declared.symbols.Symbol.TheVariants.{Value, Rate, Potential}
+use Rattle.spelling.specs.Symbols.{of_variable, symbol, letter, number}
 use Rattle.spelling.specs.Lines.{sign, term_text, rest_text, line_text}
 
 -- the coefficient has at most k digits, and the number of the variable or node at most four
@@ -23,7 +23,7 @@ sign_one : (z : ℤ) → length (sign z) ≡ 1
 sign_one (pos n) = refl
 sign_one (negsuc n) = refl
 
-letter_one : (q : Quantity) → length (letter q) ≡ 1
+letter_one : (q : Symbol) → length (letter q) ≡ 1
 letter_one (Value v) = refl
 letter_one (Rate v) = refl
 letter_one (Potential n) = refl
@@ -32,7 +32,7 @@ of_variable_number : (o : Order) (v : ℕ) → number (of_variable o v) ≤ v
 of_variable_number ByValue v = omega arith
 of_variable_number ByRate v = omega arith
 
-number_below : (v : ℕ) (t : Term) → number (quantity v t) ≤ t.variable
+number_below : (v : ℕ) (t : Term) → number (symbol v t) ≤ t.variable
 number_below v t =
     elim (nat_lt t.variable v) as (λ (b : Bool). number (cond b (of_variable t.order t.variable) (Potential (t.variable - v))) ≤ t.variable) [
       | true ↦ of_variable_number t.order t.variable
@@ -41,7 +41,7 @@ number_below v t =
 
 pub term_short : (k v : ℕ) (t : Term) → Small k t → length (term_text v t) ≤ k + 6
 term_short k v t s =
-    let q = quantity v t in
+    let q = symbol v t in
     let four : length (decimal (number q)) ≤ 4 = length-decimal-le 4 (number q) (omega arith) (omega (arith, s.few, number_below v t)) (omega (arith, s.few, number_below v t)) in
     omega (
       arith,

@@ -1,3 +1,2 @@
 pub mod Rests
-pub mod Numbers
 pub mod Lengths

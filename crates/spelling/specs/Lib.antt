@@ -1,7 +1,8 @@
-pub mod Quantities
+pub mod Refusals
+pub mod Symbols
 pub mod Lines
 pub mod Headers
-pub mod Faults
+pub mod Numbers
 pub mod Rules
 pub mod Sinks
 pub mod Lawful

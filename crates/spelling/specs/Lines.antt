@@ -9,7 +9,7 @@
 use Rattle.std.specs.Prelude.{ℕ, List, [], ◌∷◌, ◌++◌, ℤ, pos, negsuc, codes, decimal, unsigned_abs}
 use Rattle.std.specs.List.{flat_map}
 use Rattle.netlist.specs.declared.terms.Term.{Term}
-use Rattle.spelling.specs.Quantities.{quantity, letter, number}
+use Rattle.spelling.specs.Symbols.{symbol, letter, number}
 
 -- a coefficient of 0 has a sign too
 abbrev pub sign : ℤ → List ℕ
@@ -18,7 +18,7 @@ sign (negsuc n) = codes "-"
 
 abbrev pub term_text : ℕ → Term → List ℕ
 term_text variables t =
-    let q = quantity variables t in
+    let q = symbol variables t in
     sign t.coefficient ++ (decimal (unsigned_abs t.coefficient) ++ (letter q ++ decimal (number q)))
 
 -- terms, each behind a blank

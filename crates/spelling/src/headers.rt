@@ -1,13 +1,12 @@
 //! The line above a list of equations: how many there are.
 ghost use Rattle.std.specs.Prelude.{◌≡◌};
-ghost use Rattle.netlist.specs.Buffers.{filled};
 ghost use Rattle.spelling.specs.Headers.{header_text};
-ghost use Rattle.spelling.specs.Rules.{judge_text, answer_text};
+ghost use Rattle.spelling.specs.Rules.{answer_text, printed};
 
 use crate::decimals::put_decimal;
+use crate::refusals::WriteRefusal;
 use crate::sinks::Sink;
 use crate::texts::{Text, print};
-use draft::refusals::Refusal;
 
 #[derive(Clone, Copy)]
 struct Header {
@@ -26,9 +25,9 @@ impl Text for Header {
 
 /// Prints the header of `equations` equations, and answers how many bytes that took. A buffer that is
 /// too short is left untouched.
-pub fn write_header(equations: usize, buffer: &mut [u8]) -> Result<usize, Refusal>
+pub fn write_header(equations: usize, buffer: &mut [u8]) -> Result<usize, WriteRefusal>
     ensures answer { result ≡ answer_text buffer.old (header_text equations) }
-    ensures buffer { buffer.new ≡ filled (judge_text buffer.old (header_text equations)) buffer.old (header_text equations) }
+    ensures buffer { buffer.new ≡ printed buffer.old (header_text equations) }
 {
     print(&Header { equations }, buffer)
 }

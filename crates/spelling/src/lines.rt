@@ -1,13 +1,12 @@
 //! The line of an equation: its sum, and then what says that the sum is zero.
 ghost use Rattle.std.specs.Prelude.{◌≡◌};
-ghost use Rattle.netlist.specs.Buffers.{filled};
 ghost use Rattle.spelling.specs.Lines.{line_text};
-ghost use Rattle.spelling.specs.Rules.{judge_text, answer_text};
+ghost use Rattle.spelling.specs.Rules.{answer_text, printed};
 
+use crate::refusals::WriteRefusal;
 use crate::sinks::Sink;
 use crate::sums::put_sum;
 use crate::texts::{Text, print};
-use draft::refusals::Refusal;
 use netlist::terms::Term;
 
 #[derive(Clone, Copy)]
@@ -27,9 +26,13 @@ impl Text for Line<'_> {
 
 /// Prints the equation whose terms add up to zero, of a sheet with `variables` variables, and answers
 /// how many bytes that took. A buffer that is too short is left untouched.
-pub fn write_line(terms: &[Term], variables: usize, buffer: &mut [u8]) -> Result<usize, Refusal>
+pub fn write_line(
+    terms: &[Term],
+    variables: usize,
+    buffer: &mut [u8],
+) -> Result<usize, WriteRefusal>
     ensures answer { result ≡ answer_text buffer.old (line_text variables terms.now) }
-    ensures buffer { buffer.new ≡ filled (judge_text buffer.old (line_text variables terms.now)) buffer.old (line_text variables terms.now) }
+    ensures buffer { buffer.new ≡ printed buffer.old (line_text variables terms.now) }
 {
     print(&Line { terms, variables }, buffer)
 }

@@ -2,7 +2,8 @@
 //! once, and is first measured and then written.
 ghost use Rattle.std.specs.Prelude.{◌≡◌, ℕ, ◌+◌, ◌≤◌, List, [], ◌++◌, length};
 ghost use Rattle.spelling.specs.Sinks.{AlwaysRoom, Counted, HasRoom, Written};
-ghost use Rattle.spelling.specs.Lawful.{counted_nothing, counted_both, always_room_first, always_room_second, written_nothing, written_both, has_room_first, has_room_second};
+ghost use Rattle.spelling.specs.Lawful.{counted_nothing, counted_both, always_room_first, always_room_second};
+ghost use Rattle.spelling.specs.Lawful.{written_nothing, written_both, has_room_first, has_room_second};
 
 pub(crate) trait Sink {
     // That these bytes go in.

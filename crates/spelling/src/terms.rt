@@ -3,8 +3,8 @@ ghost use Rattle.std.specs.Prelude.{◌≡◌};
 ghost use Rattle.spelling.specs.Lines.{sign, term_text};
 
 use crate::decimals::put_decimal;
-use crate::quantities::Quantity;
 use crate::sinks::Sink;
+use crate::symbols::Symbol;
 use netlist::terms::Term;
 
 // Every coefficient has a sign; that of 0 is `+`.
@@ -18,9 +18,9 @@ pub(crate) fn put_term<S: Sink>(sink: &mut S, term: Term, variables: usize)
     requires { S.has_room sink.old (term_text variables term) }
     ensures { S.puts sink.old (term_text variables term) sink.new }
 {
-    let quantity = Quantity::of(term, variables);
+    let symbol = Symbol::of(term, variables);
     sink.put(sign(term.coefficient));
     put_decimal(sink, term.coefficient.unsigned_abs() as usize);
-    sink.put(quantity.letter());
-    put_decimal(sink, quantity.number());
+    sink.put(symbol.letter());
+    put_decimal(sink, symbol.number());
 }

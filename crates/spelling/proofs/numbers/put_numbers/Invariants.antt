@@ -1,6 +1,6 @@
 use Rattle.std.proofs.Common.{take, drop}
-use Rattle.spelling.specs.Faults.{numbers_text}
-use Rattle.spelling.proofs.faults.put_numbers.Given as goal
+use Rattle.spelling.specs.Numbers.{numbers_text}
+use Rattle.spelling.proofs.numbers.put_numbers.Given as goal
 
 -- the numbers so far are put, and the others go in
 abbrev pub invariant-loop-number : goal.invariant-loop-number

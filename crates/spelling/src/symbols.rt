@@ -1,11 +1,11 @@
 //! What a term takes times its coefficient.
 ghost use Rattle.std.specs.Prelude.{◌≡◌};
-ghost use Rattle.spelling.specs.Quantities.{quantity, letter, number};
+ghost use Rattle.spelling.specs.Symbols.{symbol, letter, number};
 
 use netlist::terms::{Order, Term};
 
 #[derive(Clone, Copy)]
-pub(crate) enum Quantity {
+pub(crate) enum Symbol {
     // The value of a variable.
     Value { variable: usize },
     // The rate of change of a variable.
@@ -14,20 +14,20 @@ pub(crate) enum Quantity {
     Potential { node: usize },
 }
 
-impl Quantity {
-    // The quantity of a term on a sheet with `variables` variables.
-    pub(crate) fn of(term: Term, variables: usize) -> Quantity
-        ensures { result ≡ quantity variables term }
+impl Symbol {
+    // The symbol of a term on a sheet with `variables` variables.
+    pub(crate) fn of(term: Term, variables: usize) -> Symbol
+        ensures { result ≡ symbol variables term }
     {
         let variable = term.variable;
         if variable >= variables {
-            return Quantity::Potential {
+            return Symbol::Potential {
                 node: variable - variables,
             };
         }
         match term.order {
-            Order::Value => Quantity::Value { variable },
-            Order::Rate => Quantity::Rate { variable },
+            Order::Value => Symbol::Value { variable },
+            Order::Rate => Symbol::Rate { variable },
         }
     }
 
@@ -35,9 +35,9 @@ impl Quantity {
         ensures { result.now ≡ letter self }
     {
         match self {
-            Quantity::Value { .. } => b"v",
-            Quantity::Rate { .. } => b"r",
-            Quantity::Potential { .. } => b"p",
+            Symbol::Value { .. } => b"v",
+            Symbol::Rate { .. } => b"r",
+            Symbol::Potential { .. } => b"p",
         }
     }
 
@@ -45,8 +45,8 @@ impl Quantity {
         ensures { result ≡ number self }
     {
         match self {
-            Quantity::Value { variable } | Quantity::Rate { variable } => variable,
-            Quantity::Potential { node } => node,
+            Symbol::Value { variable } | Symbol::Rate { variable } => variable,
+            Symbol::Potential { node } => node,
         }
     }
 }

@@ -1,6 +1,6 @@
 use Rattle.std.proofs.Common.{[], ◌++◌, get_or, codes, decimal}
-use Rattle.spelling.proofs.Numbers.{numbers_first, numbers_more}
-use Rattle.spelling.proofs.faults.put_numbers.Goals as goal
+use Rattle.spelling.proofs.Rests.{numbers_first, numbers_more}
+use Rattle.spelling.proofs.numbers.put_numbers.Goals as goal
 
 pub loop-number-init : goal.loop-number-init
 loop-number-init g c = record {
