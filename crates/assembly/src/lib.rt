@@ -45,3 +45,28 @@ pub trait Assembly {
         self.size().is_none()
     }
 }
+
+/// An assembly that is lent is one too, of the same meaning.
+impl<T: Assembly> Assembly for &T {
+    ghost meaning = { λ s. T.Assembly.meaning s.now };
+
+    fn size(&self) -> Option<Size> {
+        (**self).size()
+    }
+
+    fn domain(&self, node: usize) -> Option<Domain> {
+        (**self).domain(node)
+    }
+
+    fn row(&self, k: usize) -> Option<PlanRow> {
+        (**self).row(k)
+    }
+
+    fn law_len(&self, k: usize) -> Option<usize> {
+        (**self).law_len(k)
+    }
+
+    fn term(&self, k: usize, t: usize) -> Option<PlanTerm> {
+        (**self).term(k, t)
+    }
+}

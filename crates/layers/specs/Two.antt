@@ -1,7 +1,7 @@
 -- Layers of two parts.
-use Rattle.std.specs.Prelude.{◌≡◌, ℕ, ◌+◌, Bool, true, false, Option, MatchOption}
+use Rattle.std.specs.Prelude.{◌≡◌, ℕ, ◌+◌, Bool, true, false, Some, Option, MatchOption}
 use Rattle.assembly.specs.declared.plans.Size.{Size}
-use Rattle.assembly.specs.Meaning.{Meaning, void, plan, Plan, Bounded, size_in, rows_of, laws_of, is_small}
+use Rattle.assembly.specs.Meaning.{Meaning, void, plan, Plan, Proper, size_of, rows_of, laws_of, is_small}
 use Rattle.layers.specs.declared.halves.Halves.{Halves}
 use Rattle.layers.specs.declared.renumbering.Renumbering.{Renumbering}
 use Rattle.layers.specs.Layer.{layer_if}
@@ -56,26 +56,23 @@ back_between first second a b = record {
   variables_from = a.variables;
 }
 
--- The layer w of the parts m and n is not void, and h tells what they have.
-pub record Halved (whole : Plan → Plan → Plan) (m n w : Meaning) (h : Halves) : Type 0 where
-  pub one : Plan
-  pub other : Plan
-  pub one_is : m ≡ plan one
-  pub other_is : n ≡ plan other
-  pub whole_is : w ≡ plan (whole one other)
-  pub first_has : h.first ≡ size_in one
-  pub second_has : h.second ≡ size_in other
-  pub whole_has : h.whole ≡ size_in (whole one other)
-  pub one_bounds : Bounded one
-  pub other_bounds : Bounded other
-  pub small : is_small (size_in (whole one other)) ≡ true
+-- The layer of the parts m and n is not void, and h tells what it and they have. The parts keep to their bounds.
+pub record Halved (meet : Meaning → Meaning → Bool) (whole : Plan → Plan → Plan) (m n : Meaning) (h : Halves)
+    : Type 0 where
+  pub first_has : Some h.first ≡ size_of m
+  pub second_has : Some h.second ≡ size_of n
+  pub whole_has : Some h.whole ≡ size_of (layer_of_two meet whole m n)
+  pub first_bounds : Proper m
+  pub second_bounds : Proper n
 
--- What a layer of two parts tells: that it is void, or what it and its parts have.
+-- What a layer of two parts knows of them: that it is void, or what it and they have.
 abbrev pub Tells : (Meaning → Meaning → Bool) → (Plan → Plan → Plan) → Meaning → Meaning → Option Halves → Type 0
-Tells meet whole m n r = let w = layer_of_two meet whole m n in MatchOption r (w ≡ void) (Halved whole m n w)
+Tells meet whole m n r = MatchOption r (layer_of_two meet whole m n ≡ void) (Halved meet whole m n)
 
--- The layer's rows and laws are those of its parts, with these new numbers.
-pub record Joins (whole : Plan → Plan → Plan) (m n w : Meaning) (h : Halves) (front back : Renumbering) : Type 0 where
-  pub halved : Halved whole m n w h
+-- The layer w is that of the parts m and n, and its rows and laws are theirs, with these new numbers.
+pub record Joins (meet : Meaning → Meaning → Bool) (whole : Plan → Plan → Plan) (m n w : Meaning) (h : Halves)
+    (front back : Renumbering) : Type 0 where
+  pub whole_is : layer_of_two meet whole m n ≡ w
+  pub halved : Halved meet whole m n h
   pub rows_are : rows_of w ≡ joined_rows front back m n
   pub laws_are : laws_of w ≡ joined_laws front back m n

@@ -4,7 +4,7 @@ use Rattle.std.specs.List.{range_with_len, flat_map, slice_get, list_all}
 use Rattle.std.specs.Option.{option_map}
 use Rattle.std.proofs.lemmas.List.{length-append, length-map}
 use Rattle.std.proofs.lemmas.Option.{slice_get_past}
-use Rattle.std.proofs.lemmas.Bool.{leb-true, and_right, and_parts, both_ways}
+use Rattle.std.proofs.lemmas.Bool.{and_right, and_parts, both_ways}
 use Rattle.netlist.specs.Sound.{is_term_count}
 use Rattle.assembly.specs.Plans.{PlanRow, PlanTerm}
 use Rattle.assembly.specs.declared.plans.Size.{Size}
@@ -13,12 +13,13 @@ use Rattle.assembly.proofs.Nth.{nth_append_left, nth_append_right}
 use Rattle.layers.specs.declared.renumbering.Renumbering.{Renumbering}
 use Rattle.layers.specs.Layer.{second_end}
 use Rattle.layers.specs.Renumbered.{moved_row, moved_term, moved_rows, moved_laws}
+use Rattle.layers.proofs.Halving.{size_where}
 use Rattle.layers.proofs.Ends.{by_ends}
 use Rattle.layers.proofs.Laws.{mapped_length, moved_terms, no_terms, kept_lengths, joined_lengths}
 use Rattle.layers.proofs.Small.{size_with, small_bounds, small_from, bounded}
 use Rattle.repeat.specs.declared.copies.Copies.{Copies}
 use Rattle.repeat.specs.declared.copies.Spot.{Spot}
-use Rattle.repeat.specs.Repeat.{in_turn, copy_place, in_copies, is_count, meet, times_size, SmallCopies, Copied, Tells, IsSpot}
+use Rattle.repeat.specs.Repeat.{in_turn, copy_place, in_copies, is_count, meet, repeated, times_size, SmallCopies, Copied, Tells, IsSpot}
 use Rattle.repeat.proofs.Turns.{length_turns, nth_spot, nth_copy, nth_no_copy, turn_le}
 
 -- A part has one second end.
@@ -67,18 +68,11 @@ judged n a p e None large =
 judged n a p e (Some c) are =
     let counted = size_in_copies n a p in
     let small : is_small (size_in (in_copies n a)) ≡ true = ap is_small (counted ∙ sym are.whole_is) ∙ are.small in
-    let count = and_parts _ _ are.count in
     record {
-      one = a;
-      one_is = refl;
-      whole_is = rw (e, are.count, small) refl;
-      part_has = are.part_is;
+      part_has = ap Some are.part_is;
       times_has = are.times_is;
-      whole_has = are.whole_is ∙ sym counted;
-      one_bounds = p;
-      some = leb-true _ _ count.0;
-      few = leb-true _ _ count.1;
-      small = small;
+      whole_has = rw (e, are.count, small) (ap Some (are.whole_is ∙ sym counted));
+      part_bounds = p;
     }
 
 pub copied : (n : ℕ) (m : Meaning) {x : Size} (r : Option Copies) → Some x ≡ size_of m → Proper m → meet m ≡ true → SmallCopies n x r → Tells n m r
@@ -87,10 +81,17 @@ copied n (plan a) {x} r ex p e are =
     let x_is : x ≡ size_in a = cc in
     judged n a p e r (subst (λ u. SmallCopies n u r) x_is are)
 
+-- What a layer knows, once it has the sizes.
+pub known : (n : ℕ) (m : Meaning) {r : Option Copies} (c : Copies) → Tells n m r → r ≡ Some c → Copied n m c
+known n m c t e = subst (Tells n m) e t
+
 -- What holds of a plan and its copies holds of the part and the layer.
-pub by_copies : (n : ℕ) (P : Meaning → Meaning → Size → ℕ → Size → Type 0) → ((a : Plan) → Bounded a → is_small (size_in (in_copies n a)) ≡ true → P (plan a) (plan (in_copies n a)) (size_in a) n (size_in (in_copies n a))) → {m w : Meaning} {c : Copies} → Copied n m w c → P m w c.part c.times c.whole
-by_copies n P f {m} {w} {c} t =
-    rw (t.one_is, t.whole_is, t.part_has, t.times_has, t.whole_has) (f t.one t.one_bounds t.small)
+pub by_copies : (n : ℕ) (P : Meaning → Meaning → Size → ℕ → Size → Type 0) → ((a : Plan) → Bounded a → is_small (size_in (in_copies n a)) ≡ true → P (plan a) (plan (in_copies n a)) (size_in a) n (size_in (in_copies n a))) → {m : Meaning} {c : Copies} → Copied n m c → P m (repeated n m) c.part c.times c.whole
+by_copies n P f {m = void} t = absurd (let e = t.part_has in cc)
+by_copies n P f {m = plan a} {c} t =
+    let part : c.part ≡ size_in a = let e = t.part_has in cc in
+    let is = size_where ((meet (plan a) && is_count n) && is_small (size_in (in_copies n a))) (in_copies n a) t.whole_has in
+    rw (is.0, part, t.times_has, is.1) (f a t.part_bounds (and_parts _ _ is.0).1)
 
 -- The laws of all copies are as long as the part's.
 all_lengths : (n : ℕ) (a : Plan) → Bounded a → (s k : ℕ) → list_all is_term_count (map length (flat_map (λ i. moved_laws (copy_place (size_in a) n i) a) (range_with_len s k))) ≡ true
@@ -99,48 +100,45 @@ all_lengths n a p s (suc k) =
     joined_lengths (moved_laws (copy_place (size_in a) n s) a) (flat_map (λ i. moved_laws (copy_place (size_in a) n i) a) (range_with_len (s + 1) k))
     (kept_lengths (copy_place (size_in a) n s) a p) (all_lengths n a p (s + 1) k)
 
-module _ (n : ℕ) {m w : Meaning} {c : Copies} (is : Copied n m w c) where
-  pub copies_size : Some c.whole ≡ size_of w
-  copies_size = by_copies n (λ m w x t z. Some z ≡ size_of w) (λ a p s. refl) is
-
-  pub copies_proper : Proper w
+module _ (n : ℕ) {m : Meaning} {c : Copies} (is : Copied n m c) where
+  pub copies_proper : Proper (repeated n m)
   copies_proper =
       by_copies n (λ m w x t z. Proper w) (λ a p s. bounded (in_copies n a) p.two_ends s (all_lengths n a p 0 n)) is
 
-module _ (n : ℕ) {m w : Meaning} {c : Copies} (is : Copied n m w c) (k : ℕ) where
-  pub row_copied : {p : Renumbering} {x r : Option PlanRow} (s : Spot) → IsSpot c.part.rows c.times k s → p ≡ copy_place c.part c.times s.copy → x ≡ slice_get (rows_of m) s.place → r ≡ option_map (moved_row p) x → r ≡ slice_get (rows_of w) k
+module _ (n : ℕ) {m : Meaning} {c : Copies} (is : Copied n m c) (k : ℕ) where
+  pub row_copied : {p : Renumbering} {x r : Option PlanRow} (s : Spot) → IsSpot c.part.rows c.times k s → p ≡ copy_place c.part c.times s.copy → x ≡ slice_get (rows_of m) s.place → r ≡ option_map (moved_row p) x → r ≡ slice_get (rows_of (repeated n m)) k
   row_copied s at ep ex er =
       let e =
       by_copies n (λ m w x t z. IsSpot x.rows t k s → slice_get (rows_of w) k ≡ option_map (moved_row (copy_place x t s.copy)) (slice_get (rows_of m) s.place))
       (λ a p q. nth_copy (λ i. moved_row (copy_place (size_in a) n i)) a.rows n k s) is at in
       cc
 
-  pub row_past : c.times * c.part.rows ≤ k → None ≡ slice_get (rows_of w) k
+  pub row_past : c.times * c.part.rows ≤ k → None ≡ slice_get (rows_of (repeated n m)) k
   row_past =
       by_copies n (λ m w x t z. t * x.rows ≤ k → None ≡ slice_get (rows_of w) k)
       (λ a p q. nth_no_copy (λ i. moved_row (copy_place (size_in a) n i)) a.rows n k) is
 
-  law_copied : (s : Spot) → IsSpot c.part.laws c.times k s → slice_get (laws_of w) k ≡ option_map (map (moved_term (copy_place c.part c.times s.copy))) (slice_get (laws_of m) s.place)
+  law_copied : (s : Spot) → IsSpot c.part.laws c.times k s → slice_get (laws_of (repeated n m)) k ≡ option_map (map (moved_term (copy_place c.part c.times s.copy))) (slice_get (laws_of m) s.place)
   law_copied s =
       by_copies n (λ m w x t z. IsSpot x.laws t k s → slice_get (laws_of w) k ≡ option_map (map (moved_term (copy_place x t s.copy))) (slice_get (laws_of m) s.place))
       (λ a p q. nth_copy (λ i. map (moved_term (copy_place (size_in a) n i))) a.laws n k s) is
 
-  law_past : c.times * c.part.laws ≤ k → None ≡ slice_get (laws_of w) k
+  law_past : c.times * c.part.laws ≤ k → None ≡ slice_get (laws_of (repeated n m)) k
   law_past =
       by_copies n (λ m w x t z. t * x.laws ≤ k → None ≡ slice_get (laws_of w) k)
       (λ a p q. nth_no_copy (λ i. map (moved_term (copy_place (size_in a) n i))) a.laws n k) is
 
-  pub len_copied : (s : Spot) → IsSpot c.part.laws c.times k s → option_map length (slice_get (laws_of m) s.place) ≡ option_map length (slice_get (laws_of w) k)
+  pub len_copied : (s : Spot) → IsSpot c.part.laws c.times k s → option_map length (slice_get (laws_of m) s.place) ≡ option_map length (slice_get (laws_of (repeated n m)) k)
   len_copied s at = sym (ap (option_map length) (law_copied s at) ∙ mapped_length _ (slice_get (laws_of m) s.place))
 
-  pub len_past : c.times * c.part.laws ≤ k → None ≡ option_map length (slice_get (laws_of w) k)
+  pub len_past : c.times * c.part.laws ≤ k → None ≡ option_map length (slice_get (laws_of (repeated n m)) k)
   len_past past = ap (option_map length) (law_past past)
 
-  pub term_copied : {p : Renumbering} {x r : Option PlanTerm} (s : Spot) (t : ℕ) → IsSpot c.part.laws c.times k s → p ≡ copy_place c.part c.times s.copy → x ≡ slice_get (terms_of m s.place) t → r ≡ option_map (moved_term p) x → r ≡ slice_get (terms_of w k) t
-  term_copied s t at ep ex er = let e = moved_terms _ (laws_of w) k (laws_of m) s.place t (law_copied s at) in cc
+  pub term_copied : {p : Renumbering} {x r : Option PlanTerm} (s : Spot) (t : ℕ) → IsSpot c.part.laws c.times k s → p ≡ copy_place c.part c.times s.copy → x ≡ slice_get (terms_of m s.place) t → r ≡ option_map (moved_term p) x → r ≡ slice_get (terms_of (repeated n m) k) t
+  term_copied s t at ep ex er = let e = moved_terms _ (laws_of (repeated n m)) k (laws_of m) s.place t (law_copied s at) in cc
 
-  pub term_past : (t : ℕ) → c.times * c.part.laws ≤ k → None ≡ slice_get (terms_of w k) t
-  term_past t past = no_terms (laws_of w) k t (law_past past)
+  pub term_past : (t : ℕ) → c.times * c.part.laws ≤ k → None ≡ slice_get (terms_of (repeated n m) k) t
+  term_past t past = no_terms (laws_of (repeated n m)) k t (law_past past)
 
 nth_inner : {X : Type 0} (ends inner : List X) (i : ℕ) → length ends ≡ 2 → 2 ≤ i → slice_get (ends ++ inner) i ≡ slice_get inner (i - 2)
 nth_inner ends inner i e l = nth_append_right ends inner i (omega arith) ∙ ap (λ n. slice_get inner (i - n)) e
@@ -170,17 +168,26 @@ module _ (n : ℕ) (a : Plan) (p : Bounded a) (i : ℕ) (l : 2 ≤ i) where
   inner_past : length (in_copies n a).inner ≤ i - 2 → None ≡ slice_get (a.ends ++ (in_copies n a).inner) i
   inner_past u = sym (inner_at ∙ slice_get_past (in_copies n a).inner (i - 2) u)
 
-module _ (n : ℕ) {m w : Meaning} {c : Copies} (is : Copied n m w c) (i : ℕ) where
-  pub domain_copied : 2 ≤ i → (s : Spot) → IsSpot c.part.inner c.times (i - 2) s → slice_get (domains_of m) (2 + s.place) ≡ slice_get (domains_of w) i
+-- The ends are those of every copy.
+ends_alike : {X : Type 0} (xs ys : List X) (i : ℕ) → i < 2 → (ends : List X) → length ends ≡ 2 → slice_get (ends ++ xs) i ≡ slice_get (ends ++ ys) i
+ends_alike xs ys i l ends two = nth_append_left ends xs i (omega arith) ∙ sym (nth_append_left ends ys i (omega arith))
+
+module _ (n : ℕ) {m : Meaning} {c : Copies} (is : Copied n m c) (i : ℕ) where
+  pub domain_end : i < 2 → slice_get (domains_of m) i ≡ slice_get (domains_of (repeated n m)) i
+  domain_end l =
+      by_copies n (λ m w x t z. slice_get (domains_of m) i ≡ slice_get (domains_of w) i)
+      (λ a p q. ends_alike a.inner (in_copies n a).inner i l a.ends p.two_ends) is
+
+  pub domain_copied : 2 ≤ i → (s : Spot) → IsSpot c.part.inner c.times (i - 2) s → slice_get (domains_of m) (2 + s.place) ≡ slice_get (domains_of (repeated n m)) i
   domain_copied h s =
       by_copies n (λ m w x t z. IsSpot x.inner t (i - 2) s → slice_get (domains_of m) (2 + s.place) ≡ slice_get (domains_of w) i)
       (λ a p q. inner_copied n a p i h s) is
 
-  pub domain_joint : 2 ≤ i → c.times * c.part.inner ≤ i - 2 → i - 2 < c.whole.inner → slice_get (domains_of m) 1 ≡ slice_get (domains_of w) i
+  pub domain_joint : 2 ≤ i → c.times * c.part.inner ≤ i - 2 → i - 2 < c.whole.inner → slice_get (domains_of m) 1 ≡ slice_get (domains_of (repeated n m)) i
   domain_joint h =
       by_copies n (λ m w x t z. t * x.inner ≤ i - 2 → i - 2 < z.inner → slice_get (domains_of m) 1 ≡ slice_get (domains_of w) i)
       (λ a p q. inner_joint n a p i h) is
 
-  pub domain_past : 2 ≤ i → c.whole.inner ≤ i - 2 → None ≡ slice_get (domains_of w) i
+  pub domain_past : 2 ≤ i → c.whole.inner ≤ i - 2 → None ≡ slice_get (domains_of (repeated n m)) i
   domain_past h =
       by_copies n (λ m w x t z. z.inner ≤ i - 2 → None ≡ slice_get (domains_of w) i) (λ a p q. inner_past n a p i h) is

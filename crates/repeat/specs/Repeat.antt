@@ -1,9 +1,9 @@
 -- What copies of a part in series mean.
-use Rattle.std.specs.Prelude.{◌≡◌, ℕ, ◌+◌, ◌-◌, ◌*◌, ◌<◌, ◌≤◌, Bool, true, false, ◌&&◌, List, [], ◌∷◌, ◌++◌}
-use Rattle.std.specs.Prelude.{Option, MatchOption, nat_le, slice_index_or}
+use Rattle.std.specs.Prelude.{◌≡◌, ℕ, ◌+◌, ◌-◌, ◌*◌, ◌<◌, Bool, true, false, ◌&&◌, List, [], ◌∷◌, ◌++◌}
+use Rattle.std.specs.Prelude.{Some, Option, MatchOption, nat_le, slice_index_or}
 use Rattle.std.specs.List.{range_with_len, flat_map}
 use Rattle.assembly.specs.declared.plans.Size.{Size}
-use Rattle.assembly.specs.Meaning.{Meaning, void, plan, Plan, Bounded, size_in, is_small}
+use Rattle.assembly.specs.Meaning.{Meaning, void, plan, Plan, Proper, size_in, size_of, is_small}
 use Rattle.layers.specs.declared.renumbering.Renumbering.{Renumbering}
 use Rattle.layers.specs.Renumbered.{absent, moved_rows, moved_laws}
 use Rattle.layers.specs.Layer.{layer_if, same_domain, domain_at, second_end}
@@ -77,22 +77,16 @@ pub record AreCopies (n : ℕ) (a : Size) (c : Copies) : Type 0 where
 abbrev pub SmallCopies : ℕ → Size → Option Copies → Type 0
 SmallCopies n a r = MatchOption r ((is_count n && is_small (times_size n a)) ≡ false) (AreCopies n a)
 
--- The layer w of n copies of the part m is not void, and c tells what they have.
-pub record Copied (n : ℕ) (m w : Meaning) (c : Copies) : Type 0 where
-  pub one : Plan
-  pub one_is : m ≡ plan one
-  pub whole_is : w ≡ plan (in_copies n one)
-  pub part_has : c.part ≡ size_in one
+-- The layer of n copies of the part m is not void, and c tells what it and one copy have. The part keeps to its bounds.
+pub record Copied (n : ℕ) (m : Meaning) (c : Copies) : Type 0 where
+  pub part_has : Some c.part ≡ size_of m
   pub times_has : c.times ≡ n
-  pub whole_has : c.whole ≡ size_in (in_copies n one)
-  pub one_bounds : Bounded one
-  pub some : 1 ≤ n
-  pub few : n ≤ most_copies
-  pub small : is_small (size_in (in_copies n one)) ≡ true
+  pub whole_has : Some c.whole ≡ size_of (repeated n m)
+  pub part_bounds : Proper m
 
--- What a layer of copies tells: that it is void, or what it and one copy have.
+-- What a layer of copies knows of the part: that it is void, or what it and one copy have.
 abbrev pub Tells : ℕ → Meaning → Option Copies → Type 0
-Tells n m r = let w = repeated n m in MatchOption r (w ≡ void) (Copied n m w)
+Tells n m r = MatchOption r (repeated n m ≡ void) (Copied n m)
 
 -- Place k of n lists of one length is a place of one of them.
 pub record IsSpot (len n k : ℕ) (s : Spot) : Type 0 where

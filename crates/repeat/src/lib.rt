@@ -5,6 +5,8 @@
 //! 1,000 copies, and where it has too much. One copy is a layer too.
 #![tactic(auto)]
 
+ghost use Rattle.std.specs.Prelude.{◌≡◌};
+ghost use Rattle.layers.specs.Told.{told};
 ghost use Rattle.repeat.specs.Repeat.{repeated, Tells};
 
 mod copies;
@@ -16,23 +18,45 @@ use copies::Copies;
 use layers::domains::same_domain;
 use netlist::domains::Domain;
 
-/// So many copies of the part.
-#[derive(Clone, Copy)]
-pub struct Repeat<A> {
-    pub part: A,
-    pub times: usize,
+/// A part, how many copies of it, and what it told where the layer was made; `None` where the layer is void.
+#[derive(Drop)]
+pub struct Repeat<A: Assembly> {
+    part: A,
+    times: usize,
+    sizes: Option<Copies>,
+    ghost known: { Tells times (A.Assembly.meaning part) sizes } by { Prim.hlevel told },
+}
+
+// What a copy and the layer have, or `None` where the layer is void.
+fn copies_of<A: Assembly>(part: &A, times: usize) -> Option<Copies>
+    ensures { Tells times (A.Assembly.meaning part.now) result }
+{
+    let size = part.size()?;
+    if !same_domain(part.domain(0), part.domain(1)) {
+        return None;
+    }
+    Copies::new(size, times)
 }
 
 impl<A: Assembly> Repeat<A> {
-    // What a copy and the layer have, or `None` where the layer is void.
-    fn copies(&self) -> Option<Copies>
-        ensures { Tells self.now.times (A.Assembly.meaning self.now.part) result }
+    /// Asks the part for its size and the domains of its ends, once.
+    pub fn new(part: A, times: usize) -> Self
+        ensures { ⟦<Self as Assembly>⟧.meaning result ≡ repeated times (A.Assembly.meaning part) }
     {
-        let part = self.part.size()?;
-        if !same_domain(self.part.domain(0), self.part.domain(1)) {
-            return None;
-        }
-        Copies::new(part, self.times)
+        let sizes = copies_of(&part, times);
+        Repeat { part, times, sizes }
+    }
+
+    /// Takes the layer apart. A layer over a part that may not be dropped ends so.
+    pub fn into_part(self) -> (A, usize)
+        ensures { repeated result.1 (A.Assembly.meaning result.0) ≡ ⟦<Self as Assembly>⟧.meaning self }
+    {
+        let Repeat {
+            part,
+            times,
+            sizes: _,
+        } = self;
+        (part, times)
     }
 }
 
@@ -40,11 +64,11 @@ impl<A: Assembly> Assembly for Repeat<A> {
     ghost meaning = { λ s. repeated s.times (A.Assembly.meaning s.part) };
 
     fn size(&self) -> Option<Size> {
-        Some(self.copies()?.whole)
+        Some(self.sizes?.whole)
     }
 
     fn domain(&self, node: usize) -> Option<Domain> {
-        let copies = self.copies()?;
+        let copies = self.sizes?;
         if node < 2 {
             return self.part.domain(node);
         }
@@ -56,19 +80,19 @@ impl<A: Assembly> Assembly for Repeat<A> {
     }
 
     fn row(&self, k: usize) -> Option<PlanRow> {
-        let copies = self.copies()?;
+        let copies = self.sizes?;
         let s = copies.spot(copies.part.rows, k)?;
         copies.place(s.copy).row(self.part.row(s.place))
     }
 
     fn law_len(&self, k: usize) -> Option<usize> {
-        let copies = self.copies()?;
+        let copies = self.sizes?;
         let s = copies.spot(copies.part.laws, k)?;
         self.part.law_len(s.place)
     }
 
     fn term(&self, k: usize, t: usize) -> Option<PlanTerm> {
-        let copies = self.copies()?;
+        let copies = self.sizes?;
         let s = copies.spot(copies.part.laws, k)?;
         copies.place(s.copy).term(self.part.term(s.place, t))
     }

@@ -9,7 +9,7 @@ use Rattle.layers.specs.Joined.{joined_domains}
 use Rattle.layers.specs.Two.{Halved}
 use Rattle.layers.proofs.Ends.{by_ends, by_both_ends}
 use Rattle.layers.proofs.Halving.{PartsLayout, by_halves}
-use Rattle.series.specs.Series.{joint, in_series, front_place, back_place}
+use Rattle.series.specs.Series.{joint, in_series, meet, series, front_place, back_place}
 
 pub series_layout : PartsLayout 1 in_series front_place back_place
 series_layout = record {
@@ -55,18 +55,18 @@ module _ {X : Type 0} (is js : List X) where
       by_both_ends (λ xs ys. slice_get (xs ++ is ++ drop 2 (ys ++ js)) (suc (suc i)) ≡ slice_get (nodes xs ys) (suc (suc i)))
       (λ x y u v. inner_other (is ++ js) y i (λ e. last (omega (arith, e, length-append is js))))
 
-module _ {m n w : Meaning} {h : Halves} (is : Halved in_series m n w h) where
-  pub domain_second : slice_get (domains_of n) 1 ≡ slice_get (domains_of w) 1
+module _ {m n : Meaning} {h : Halves} (is : Halved meet in_series m n h) where
+  pub domain_second : slice_get (domains_of n) 1 ≡ slice_get (domains_of (series m n)) 1
   domain_second =
-      by_halves in_series (λ m n w x y z. slice_get (domains_of n) 1 ≡ slice_get (domains_of w) 1)
+      by_halves meet in_series (λ m n w x y z. slice_get (domains_of n) 1 ≡ slice_get (domains_of w) 1)
       (λ a b p q s. second_node a.inner b.inner a.ends b.ends p.two_ends q.two_ends) is
 
-  pub domain_joint : (i : ℕ) → i ≡ joint h.first h.second → slice_get (domains_of m) 1 ≡ slice_get (domains_of w) i
+  pub domain_joint : (i : ℕ) → i ≡ joint h.first h.second → slice_get (domains_of m) 1 ≡ slice_get (domains_of (series m n)) i
   domain_joint i =
-      by_halves in_series (λ m n w x y z. i ≡ joint x y → slice_get (domains_of m) 1 ≡ slice_get (domains_of w) i)
+      by_halves meet in_series (λ m n w x y z. i ≡ joint x y → slice_get (domains_of m) 1 ≡ slice_get (domains_of w) i)
       (λ a b p q s e. joint_node a.inner b.inner i e a.ends b.ends p.two_ends q.two_ends) is
 
-  pub domain_other : (i : ℕ) → (i ≡ 1 → ⊥) → (i ≡ joint h.first h.second → ⊥) → slice_get (joined_domains m n) i ≡ slice_get (domains_of w) i
+  pub domain_other : (i : ℕ) → (i ≡ 1 → ⊥) → (i ≡ joint h.first h.second → ⊥) → slice_get (joined_domains m n) i ≡ slice_get (domains_of (series m n)) i
   domain_other i second =
-      by_halves in_series (λ m n w x y z. (i ≡ joint x y → ⊥) → slice_get (joined_domains m n) i ≡ slice_get (domains_of w) i)
+      by_halves meet in_series (λ m n w x y z. (i ≡ joint x y → ⊥) → slice_get (joined_domains m n) i ≡ slice_get (domains_of w) i)
       (λ a b p q s last. other_node a.inner b.inner i second last a.ends b.ends p.two_ends q.two_ends) is

@@ -1,11 +1,12 @@
 -- What two parts in series mean.
-use Rattle.std.specs.Prelude.{ℕ, ◌+◌, Bool, ◌++◌}
+use Rattle.std.specs.Prelude.{ℕ, ◌+◌, Bool, ◌++◌, Option}
 use Rattle.assembly.specs.declared.plans.Size.{Size}
 use Rattle.assembly.specs.Meaning.{Meaning, Plan, size_in}
+use Rattle.layers.specs.declared.halves.Halves.{Halves}
 use Rattle.layers.specs.declared.renumbering.Renumbering.{Renumbering}
 use Rattle.layers.specs.Renumbered.{moved_rows, moved_laws}
 use Rattle.layers.specs.Layer.{same_domain, domain_at, first_end, second_end}
-use Rattle.layers.specs.Two.{layer_of_two, front_between, back_between}
+use Rattle.layers.specs.Two.{layer_of_two, Tells, front_between, back_between}
 
 -- The joint is the layer's last inner node, behind the inner nodes of both parts.
 abbrev pub joint : Size → Size → ℕ
@@ -37,3 +38,7 @@ meet m n = same_domain (domain_at m 1) (domain_at n 0)
 
 abbrev pub series : Meaning → Meaning → Meaning
 series = layer_of_two meet in_series
+
+-- What a series knows of its parts: that it is void, or what it and they have.
+abbrev pub Knows : Meaning → Meaning → Option Halves → Type 0
+Knows = Tells meet in_series

@@ -6,8 +6,9 @@
 
 ghost use Rattle.std.specs.Prelude.{◌≡◌, MatchOption};
 ghost use Rattle.assembly.specs.Meaning.{void};
-ghost use Rattle.layers.specs.Two.{Tells, Joins};
-ghost use Rattle.series.specs.Series.{series, in_series, meet, joint};
+ghost use Rattle.layers.specs.Told.{told};
+ghost use Rattle.layers.specs.Two.{Joins};
+ghost use Rattle.series.specs.Series.{series, in_series, meet, joint, Knows};
 
 use assembly::Assembly;
 use assembly::plans::{PlanRow, PlanTerm, Size};
@@ -16,11 +17,13 @@ use layers::halves::Halves;
 use layers::pair::Pair;
 use netlist::domains::Domain;
 
-/// The second part behind the first.
-#[derive(Clone, Copy)]
-pub struct Series<A, B> {
-    pub first: A,
-    pub second: B,
+/// Two parts, and what they told where the layer was made; `None` where the layer is void.
+#[derive(Drop)]
+pub struct Series<A: Assembly, B: Assembly> {
+    first: A,
+    second: B,
+    sizes: Option<Halves>,
+    ghost known: { Knows (A.Assembly.meaning first) (B.Assembly.meaning second) sizes } by { Prim.hlevel told },
 }
 
 // The joint's number: it is the last inner node.
@@ -30,28 +33,52 @@ fn joint(parts: Halves) -> u16
     (2 + parts.first.inner + parts.second.inner) as u16
 }
 
+// What two parts and their layer have, or `None` where the layer is void.
+fn halves<A: Assembly, B: Assembly>(first: &A, second: &B) -> Option<Halves>
+    ensures { Knows (A.Assembly.meaning first.now) (B.Assembly.meaning second.now) result }
+{
+    let one = first.size()?;
+    let other = second.size()?;
+    if !same_domain(first.domain(1), second.domain(0)) {
+        return None;
+    }
+    Halves::new(one, other, 1)
+}
+
 impl<A: Assembly, B: Assembly> Series<A, B> {
-    // What the parts and the layer have, or `None` where the layer is void. Which ends meet, and how many
-    // joints there are, is where layers of two differ, so each has this and the next of its own.
-    fn halves(&self) -> Option<Halves>
-        ensures { Tells meet in_series (A.Assembly.meaning self.now.first) (B.Assembly.meaning self.now.second) result }
+    /// Asks the parts for their sizes and the domains that meet, once.
+    pub fn new(first: A, second: B) -> Self
+        ensures { ⟦<Self as Assembly>⟧.meaning result ≡ series (A.Assembly.meaning first) (B.Assembly.meaning second) }
     {
-        let first = self.first.size()?;
-        let second = self.second.size()?;
-        if !same_domain(self.first.domain(1), self.second.domain(0)) {
-            return None;
+        let sizes = halves(&first, &second);
+        Series {
+            first,
+            second,
+            sizes,
         }
-        Halves::new(first, second, 1)
+    }
+
+    /// Takes the layer apart. A layer over a part that may not be dropped ends so.
+    pub fn into_parts(self) -> (A, B)
+        ensures { ⟦<Self as Assembly>⟧.meaning self
+            ≡ series (A.Assembly.meaning result.0) (B.Assembly.meaning result.1) }
+    {
+        let Series {
+            first,
+            second,
+            sizes: _,
+        } = self;
+        (first, second)
     }
 
     // The parts in their places, or `None` where the layer is void.
     fn pair(&self) -> Option<Pair<'_, A, B>>
         ensures { let whole = series (A.Assembly.meaning self.now.first) (B.Assembly.meaning self.now.second) in
             MatchOption result (whole ≡ void) (λ pair.
-            Joins in_series (A.Assembly.meaning pair.first.now) (B.Assembly.meaning pair.second.now)
+            Joins meet in_series (A.Assembly.meaning pair.first.now) (B.Assembly.meaning pair.second.now)
             whole pair.parts pair.front pair.back) }
     {
-        let parts = self.halves()?;
+        let parts = self.sizes?;
         let joint = joint(parts);
         Some(Pair {
             first: &self.first,
@@ -66,10 +93,8 @@ impl<A: Assembly, B: Assembly> Series<A, B> {
 impl<A: Assembly, B: Assembly> Assembly for Series<A, B> {
     ghost meaning = { λ s. series (A.Assembly.meaning s.first) (B.Assembly.meaning s.second) };
 
-    // One line each, but for `domain`, which no trait could take over: an impl of `Assembly` for every
-    // layer of two could stand in `assembly` alone.
     fn size(&self) -> Option<Size> {
-        Some(self.halves()?.whole)
+        Some(self.sizes?.whole)
     }
 
     fn domain(&self, node: usize) -> Option<Domain> {

@@ -1,11 +1,12 @@
 -- What two parts side by side mean.
-use Rattle.std.specs.Prelude.{◌+◌, Bool, ◌&&◌, ◌++◌}
+use Rattle.std.specs.Prelude.{◌+◌, Bool, ◌&&◌, ◌++◌, Option}
 use Rattle.assembly.specs.declared.plans.Size.{Size}
 use Rattle.assembly.specs.Meaning.{Meaning, Plan, size_in}
+use Rattle.layers.specs.declared.halves.Halves.{Halves}
 use Rattle.layers.specs.declared.renumbering.Renumbering.{Renumbering}
 use Rattle.layers.specs.Renumbered.{moved_rows, moved_laws}
 use Rattle.layers.specs.Layer.{same_domain, domain_at}
-use Rattle.layers.specs.Two.{layer_of_two, front_between, back_between}
+use Rattle.layers.specs.Two.{layer_of_two, Tells, front_between, back_between}
 
 -- The ends stay where they are. The one part's other things come first.
 abbrev pub front_place : Size → Size → Renumbering
@@ -33,3 +34,7 @@ meet m n = same_domain (domain_at m 0) (domain_at n 0) && same_domain (domain_at
 
 abbrev pub beside : Meaning → Meaning → Meaning
 beside = layer_of_two meet in_parallel
+
+-- What parts side by side let the layer know: that it is void, or what it and they have.
+abbrev pub Knows : Meaning → Meaning → Option Halves → Type 0
+Knows = Tells meet in_parallel

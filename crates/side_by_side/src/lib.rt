@@ -5,8 +5,9 @@
 
 ghost use Rattle.std.specs.Prelude.{◌≡◌, MatchOption};
 ghost use Rattle.assembly.specs.Meaning.{void};
-ghost use Rattle.layers.specs.Two.{Tells, Joins};
-ghost use Rattle.side_by_side.specs.Beside.{beside, in_parallel, meet};
+ghost use Rattle.layers.specs.Told.{told};
+ghost use Rattle.layers.specs.Two.{Joins};
+ghost use Rattle.side_by_side.specs.Beside.{beside, in_parallel, meet, Knows};
 
 use assembly::Assembly;
 use assembly::plans::{PlanRow, PlanTerm, Size};
@@ -15,43 +16,64 @@ use layers::halves::Halves;
 use layers::pair::Pair;
 use netlist::domains::Domain;
 
-/// The parts between the same ends.
-#[derive(Clone, Copy)]
-pub struct SideBySide<A, B> {
-    pub one: A,
-    pub other: B,
+/// Two parts, and what they told where the layer was made; `None` where the layer is void.
+#[derive(Drop)]
+pub struct SideBySide<A: Assembly, B: Assembly> {
+    one: A,
+    other: B,
+    sizes: Option<Halves>,
+    ghost known: { Knows (A.Assembly.meaning one) (B.Assembly.meaning other) sizes } by { Prim.hlevel told },
+}
+
+// Whether each end is of one domain in both parts.
+fn ends_meet<A: Assembly, B: Assembly>(one: &A, other: &B) -> bool
+    ensures { result ≡ meet (A.Assembly.meaning one.now) (B.Assembly.meaning other.now) }
+{
+    same_domain(one.domain(0), other.domain(0)) && same_domain(one.domain(1), other.domain(1))
+}
+
+// What two parts and their layer have, or `None` where the layer is void.
+fn halves<A: Assembly, B: Assembly>(one: &A, other: &B) -> Option<Halves>
+    ensures { Knows (A.Assembly.meaning one.now) (B.Assembly.meaning other.now) result }
+{
+    let first = one.size()?;
+    let second = other.size()?;
+    if !ends_meet(one, other) {
+        return None;
+    }
+    Halves::new(first, second, 0)
 }
 
 impl<A: Assembly, B: Assembly> SideBySide<A, B> {
-    // Each end is of one domain in both parts.
-    fn ends_meet(&self) -> bool
-        ensures { result ≡ meet (A.Assembly.meaning self.now.one) (B.Assembly.meaning self.now.other) }
+    /// Asks the parts for their sizes and the domains that meet, once.
+    pub fn new(one: A, other: B) -> Self
+        ensures { ⟦<Self as Assembly>⟧.meaning result ≡ beside (A.Assembly.meaning one) (B.Assembly.meaning other) }
     {
-        same_domain(self.one.domain(0), self.other.domain(0))
-            && same_domain(self.one.domain(1), self.other.domain(1))
+        let sizes = halves(&one, &other);
+        SideBySide { one, other, sizes }
     }
 
-    // What the parts and the layer have, or `None` where the layer is void. Which ends meet, and how many
-    // joints there are, is where layers of two differ, so each has this and the next of its own.
-    fn halves(&self) -> Option<Halves>
-        ensures { Tells meet in_parallel (A.Assembly.meaning self.now.one) (B.Assembly.meaning self.now.other) result }
+    /// Takes the layer apart. A layer over a part that may not be dropped ends so.
+    pub fn into_parts(self) -> (A, B)
+        ensures { ⟦<Self as Assembly>⟧.meaning self
+            ≡ beside (A.Assembly.meaning result.0) (B.Assembly.meaning result.1) }
     {
-        let one = self.one.size()?;
-        let other = self.other.size()?;
-        if !self.ends_meet() {
-            return None;
-        }
-        Halves::new(one, other, 0)
+        let SideBySide {
+            one,
+            other,
+            sizes: _,
+        } = self;
+        (one, other)
     }
 
     // The parts in their places, or `None` where the layer is void.
     fn pair(&self) -> Option<Pair<'_, A, B>>
         ensures { let whole = beside (A.Assembly.meaning self.now.one) (B.Assembly.meaning self.now.other) in
             MatchOption result (whole ≡ void) (λ pair.
-            Joins in_parallel (A.Assembly.meaning pair.first.now) (B.Assembly.meaning pair.second.now)
+            Joins meet in_parallel (A.Assembly.meaning pair.first.now) (B.Assembly.meaning pair.second.now)
             whole pair.parts pair.front pair.back) }
     {
-        let parts = self.halves()?;
+        let parts = self.sizes?;
         Some(Pair {
             first: &self.one,
             second: &self.other,
@@ -65,10 +87,8 @@ impl<A: Assembly, B: Assembly> SideBySide<A, B> {
 impl<A: Assembly, B: Assembly> Assembly for SideBySide<A, B> {
     ghost meaning = { λ s. beside (A.Assembly.meaning s.one) (B.Assembly.meaning s.other) };
 
-    // One line each, which no trait could take over: an impl of `Assembly` for every
-    // layer of two could stand in `assembly` alone.
     fn size(&self) -> Option<Size> {
-        Some(self.halves()?.whole)
+        Some(self.sizes?.whole)
     }
 
     fn domain(&self, node: usize) -> Option<Domain> {

@@ -108,17 +108,18 @@ fn place_ring(rt: &HostRuntime, ring: &Repeat<Single>) -> anyhow::Result<()> {
 }
 
 // Asks a chain of so many singles for its last row, again and again.
-fn ask(rt: &HostRuntime, chain: &Repeat<Single>) -> anyhow::Result<()> {
+fn ask(rt: &HostRuntime, part: Single, times: usize) -> anyhow::Result<()> {
+    let chain = Repeat::new(part, times);
     let mut found = 0usize;
     let began = Instant::now(rt)?;
     for k in 0..ASKED {
-        if chain.row(chain.times.saturating_sub(1 + k % 2)).is_some() {
+        if chain.row(times.saturating_sub(1 + k % 2)).is_some() {
             found = found.saturating_add(1);
         }
     }
     let took = began.elapsed(rt)?;
     println!(rt; "{found} rows told")?;
-    eprintln!(rt; "{ASKED} rows of {} copies told in {took:?}", chain.times)?;
+    eprintln!(rt; "{ASKED} rows of {times} copies told in {took:?}")?;
     Ok(())
 }
 
@@ -134,10 +135,9 @@ fn run(rt: &HostRuntime) -> anyhow::Result<()> {
         flow_rate: 3,
         across_rate: -4,
     };
-    let ring = Repeat { part, times: 1000 };
-    place_ring(rt, &ring)?;
-    ask(rt, &Repeat { part, times: 10 })?;
-    ask(rt, &ring)
+    place_ring(rt, &Repeat::new(part, 1000))?;
+    ask(rt, part, 10)?;
+    ask(rt, part, 1000)
 }
 
 fn main(rt: HostRuntime) -> anyhow::Result<()> {

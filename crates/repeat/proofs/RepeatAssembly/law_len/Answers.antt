@@ -1,13 +1,15 @@
 use Rattle.std.proofs.Common.{◌∙◌}
-use Rattle.repeat.proofs.InCopies.{len_copied, len_past}
+use Rattle.repeat.proofs.InCopies.{known, len_copied, len_past}
 use Rattle.repeat.proofs.RepeatAssembly.law_len.Goals as goal
 
 pub returns-in_err-s : goal.returns-in_err-s
 returns-in_err-s g c =
+    let is = known c.args.self.now.times (g.A.Assembly.meaning c.args.self.now.part) c.in_ok-copies.copies c.args.self.now.known (cc) in
     c.from_residual-in_err-s.ensures
-    ∙ len_past c.args.self.now.times c.in_ok-copies.ensures c.args.k c.in_err-s.ensures
+    ∙ len_past c.args.self.now.times is c.args.k c.in_err-s.ensures
 
 pub returns : goal.returns
 returns g c =
+    let is = known c.args.self.now.times (g.A.Assembly.meaning c.args.self.now.part) c.in_ok-copies.copies c.args.self.now.known (cc) in
     c.law_len.ensures
-    ∙ len_copied c.args.self.now.times c.in_ok-copies.ensures c.args.k c.in_ok-s.s c.in_ok-s.ensures
+    ∙ len_copied c.args.self.now.times is c.args.k c.in_ok-s.s c.in_ok-s.ensures
