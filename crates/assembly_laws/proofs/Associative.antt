@@ -4,7 +4,7 @@ use Rattle.std.specs.List.{slice_get}
 use Rattle.std.proofs.lemmas.List.{append-nil, append_assoc, map-append, length-append, length_push}
 use Rattle.netlist.specs.declared.domains.Domain.{Domain}
 use Rattle.netlist.specs.Renaming.{Renaming, renamed_row}
-use Rattle.assembly.specs.Plans.{PlanRow, PlanTerm}
+use Rattle.assembly.specs.Plans.{PlanRow, PlanTerm, most_of_plan}
 use Rattle.assembly.specs.Meaning.{Plan, size_in, is_small}
 use Rattle.layers.proofs.Small.{small_bounds}
 use Rattle.layers.specs.declared.renumbering.Renumbering.{Renumbering}
@@ -140,10 +140,10 @@ module _ (x y u v s t : Domain) (a b c : Plan) where
   inner_whole = omega (arith, length_push (one_two.inner ++ c.inner) v, length-append one_two.inner c.inner, inner_left)
 
   module _ (small : is_small (size_in left) ≡ true) where
-    few_nodes : length a.inner + length b.inner + length c.inner + 2 ≤ 6000
+    few_nodes : length a.inner + length b.inner + length c.inner + 2 ≤ most_of_plan
     few_nodes = omega (arith, inner_whole, (small_bounds (size_in left) small).nodes)
 
-    few_variables : a.variables + b.variables + c.variables ≤ 6000
+    few_variables : a.variables + b.variables + c.variables ≤ most_of_plan
     few_variables = (small_bounds (size_in left) small).variables
 
     -- the variables of each part

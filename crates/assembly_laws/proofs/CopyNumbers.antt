@@ -2,6 +2,7 @@
 use Rattle.std.proofs.Common.{◌≡◌, ℕ, zero, suc, ◌+◌, ◌-◌, ◌*◌, ◌<◌, ◌≤◌, sym, refl, ap, ◌∙◌, ⊎_elim, arith}
 use Rattle.std.proofs.lemmas.Bool.{cases_lt}
 use Rattle.assembly.specs.declared.plans.Size.{Size}
+use Rattle.assembly.specs.Plans.{most_of_plan}
 use Rattle.layers.specs.Renumbered.{absent, moved_node, moved_variable}
 use Rattle.series.specs.Series.{front_place, back_place}
 use Rattle.repeat.specs.Repeat.{stop_at, copy_place}
@@ -11,7 +12,7 @@ use Rattle.assembly_laws.specs.Swapped.{swapped}
 use Rattle.assembly_laws.proofs.Swapped.{swapped_low, swapped_high, swapped_first, swapped_next}
 use Rattle.assembly_laws.proofs.Numbers.{inner_at, inner_number, no_number, variable_number, no_variable_number, by_node}
 
-module _ (s w : Size) (n : ℕ) (some : 1 ≤ n) (w_inner : w.inner ≡ n * s.inner + (n - 1)) (few : (n + 1) * s.inner + n ≤ 6000) where
+module _ (s w : Size) (n : ℕ) (some : 1 ≤ n) (w_inner : w.inner ≡ n * s.inner + (n - 1)) (few : (n + 1) * s.inner + n ≤ most_of_plan) where
   abbrev to : ℕ → ℕ
   to = swapped (2 + n * s.inner) s.inner (n - 1)
 
@@ -70,7 +71,7 @@ module _ (s w : Size) (n : ℕ) (some : 1 ≤ n) (w_inner : w.inner ≡ n * s.in
       (λ past. ap to (no_number (copy_place s (n + 1) n) k past) ∙ to_absent ∙ sym (no_number (back_place w s) k past))
       (cases_lt k (2 + s.inner))
 
-module _ (s w : Size) (n : ℕ) (w_variables : w.variables ≡ n * s.variables) (few : (n + 1) * s.variables ≤ 6000) where
+module _ (s w : Size) (n : ℕ) (w_variables : w.variables ≡ n * s.variables) (few : (n + 1) * s.variables ≤ most_of_plan) where
   pub copy_variable : (i : ℕ) → i < n → (v : ℕ) → moved_variable (copy_place s (n + 1) i) v ≡ moved_variable (front_place w s) (moved_variable (copy_place s n i) v)
   copy_variable i h v =
       ⊎_elim

@@ -3,9 +3,10 @@ use Rattle.std.proofs.Common.{◌≡◌, ℕ, ◌+◌, ◌<◌, List, [], ◌∷
 use Rattle.std.specs.List.{AllByRecursion}
 use Rattle.std.specs.Option.{option_map, option_or}
 use Rattle.std.proofs.lemmas.Bool.{leb-false, lt-leb}
-use Rattle.draft.specs.declared.refusals.Refusal.{Refusal}
-use Rattle.draft.specs.declared.refusals.Refusal.TheVariants.{PlanLaw, TermCount}
-use Rattle.draft.specs.Refusals.{number}
+use Rattle.draft.specs.declared.refusals.DraftRefusal.{DraftRefusal}
+use Rattle.draft.specs.declared.refusals.DraftRefusal.TheVariants.{TermCount}
+use Rattle.plan_judging.specs.declared.refusals.PlaceRefusal.{PlaceRefusal}
+use Rattle.plan_judging.specs.declared.refusals.PlaceRefusal.TheVariants.{Law as LawRefused}
 use Rattle.draft.specs.Rules.{table_term, table_terms, table_law}
 use Rattle.netlist.specs.Limits.{no_term_count}
 use Rattle.refusal.specs.Tests.{first_of}
@@ -21,15 +22,15 @@ LawPasses n law = first_of (table_law n law) ≡ None
 pub laws_pass : (n k : ℕ) (laws : List (List PlanTerm)) → judge_laws n k laws ≡ None → AllByRecursion (LawPasses n) laws
 laws_pass n k [] h = tt
 laws_pass n k (law ∷ laws) h =
-    let why : Refusal → Refusal = λ why. PlanLaw k (number why) in
+    let why : DraftRefusal → PlaceRefusal = λ why. LawRefused k why in
     let p = neither (option_map why (first_of (table_law n law))) (judge_laws n (k + 1) laws) h in
     (unmapped why _ p.0, laws_pass n (k + 1) laws p.1)
 
 pub laws_judged : (n k : ℕ) (laws : List (List PlanTerm)) → AllByRecursion (LawPasses n) laws → judge_laws n k laws ≡ None
 laws_judged n k [] h = refl
 laws_judged n k (law ∷ laws) h =
-    let why : Refusal → Refusal = λ why. PlanLaw k (number why) in
-    ap (λ (o : Option Refusal). option_or (option_map why o) (judge_laws n (k + 1) laws)) h.0 ∙ laws_judged n (k + 1) laws h.1
+    let why : DraftRefusal → PlaceRefusal = λ why. LawRefused k why in
+    ap (λ (o : Option DraftRefusal). option_or (option_map why o) (judge_laws n (k + 1) laws)) h.0 ∙ laws_judged n (k + 1) laws h.1
 
 -- the terms of a law name variables 0 to n - 1
 abbrev pub Of : ℕ → List PlanTerm → Type 0

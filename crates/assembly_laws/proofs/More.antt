@@ -5,7 +5,8 @@ use Rattle.std.proofs.lemmas.Bool.{and_parts, and_from, le-leb}
 use Rattle.std.proofs.lemmas.List.{append_assoc, append-nil, map-append}
 use Rattle.netlist.specs.declared.domains.Domain.{Domain}
 use Rattle.netlist.specs.Renaming.{renamed_row}
-use Rattle.assembly.specs.Plans.{PlanRow, PlanTerm}
+use Rattle.assembly.specs.Plans.{PlanRow, PlanTerm, most_of_plan}
+use Rattle.repeat.specs.Limits.{most_copies}
 use Rattle.assembly.specs.declared.plans.Size.{Size}
 use Rattle.assembly.specs.Meaning.{void, plan, Plan, Bounded, size_in, is_small}
 use Rattle.layers.proofs.Ends.{by_ends}
@@ -100,10 +101,10 @@ module _ (a : Plan) (bounds : Bounded a) (n : ℕ) (some : 1 ≤ n) (x y : Domai
       series_size copies part refl refl ∙ ap (λ z. both_sizes 1 z s) has ∙ (λ i. size_with 2 (inner i) (variables i) (rows i) (laws i)) ∙ sym has_more
 
   module _ (small : is_small (size_in left) ≡ true) where
-    few_nodes : (n + 1) * length a.inner + n ≤ 6000
+    few_nodes : (n + 1) * length a.inner + n ≤ most_of_plan
     few_nodes = omega (arith, (small_bounds (size_in left) small).nodes, ap (λ (z : Size). z.inner) has_more)
 
-    few_variables : (n + 1) * a.variables ≤ 6000
+    few_variables : (n + 1) * a.variables ≤ most_of_plan
     few_variables = (small_bounds (size_in left) small).variables
 
     of_copy : (i : ℕ) → i < n → (v : ℕ) → moved_variable (copy_place (size_in part) (n + 1) i) v ≡ moved_variable front (moved_variable (copy_place (size_in part) n i) v)
@@ -183,8 +184,8 @@ module _ (a : Plan) (bounds : Bounded a) (n : ℕ) (some : 1 ≤ n) (x y : Domai
       laws = sym laws_same;
     }
 
-  is_counted : (k : ℕ) → 1 ≤ k → k ≤ 1000 → is_count k ≡ true
-  is_counted k l h = and_from _ _ (le-leb 1 k l) (le-leb k 1000 h)
+  is_counted : (k : ℕ) → 1 ≤ k → k ≤ most_copies → is_count k ≡ true
+  is_counted k l h = and_from _ _ (le-leb 1 k l) (le-leb k most_copies h)
 
   again : (t r : Bool) → (t && (t && r)) ≡ (t && r)
   again true r = refl
@@ -193,19 +194,19 @@ module _ (a : Plan) (bounds : Bounded a) (n : ℕ) (some : 1 ≤ n) (x y : Domai
   abbrev meets : Bool
   meets = ends_meet (plan part)
 
-  left_is : n < 1000 → repeated (n + 1) (plan part) ≡ cond (meets && is_small (size_in left)) (plan left) void
+  left_is : n < most_copies → repeated (n + 1) (plan part) ≡ cond (meets && is_small (size_in left)) (plan left) void
   left_is few =
       ap (λ (t : Bool). cond ((meets && t) && is_small (size_in left)) (plan left) void) (is_counted (n + 1) (omega arith) (omega arith))
       ∙ ap (λ (t : Bool). cond (t && is_small (size_in left)) (plan left) void) (and_true meets)
 
-  right_is : n < 1000 → series (repeated n (plan part)) (plan part) ≡ cond (meets && is_small (size_in left)) (plan right) void
+  right_is : n < most_copies → series (repeated n (plan part)) (plan part) ≡ cond (meets && is_small (size_in left)) (plan right) void
   right_is few =
       inside_first copies part (meets && is_count n) (is_small (size_in copies)) (λ h. small_first (size_in copies) (size_in part) (ap is_small (sym (series_size copies part refl refl)) ∙ h))
       ∙ ap (λ (t : Bool). cond ((meets && t) && (meet (plan copies) (plan part) && is_small (size_in right))) (plan right) void) (is_counted n some (omega arith))
       ∙ (λ i. cond (and_true meets i && (same_either_way (domain_at (plan copies) 1) (domain_at (plan part) 0) i && is_small (more_size i))) (plan right) void)
       ∙ ap (λ (t : Bool). cond t (plan right) void) (again meets (is_small (size_in left)))
 
-  more : n < 1000 → MeansButNodes (last_behind n (plan part)) (last_before n (plan part)) (repeated (n + 1) (plan part)) (series (repeated n (plan part)) (plan part))
+  more : n < most_copies → MeansButNodes (last_behind n (plan part)) (last_before n (plan part)) (repeated (n + 1) (plan part)) (series (repeated n (plan part)) (plan part))
   more few =
       let same = same_if (last_behind n (plan part)) (last_before n (plan part)) (meets && is_small (size_in left)) left right (λ h. same_plan (and_parts meets (is_small (size_in left)) h).1) in
       subst (λ m. MeansButNodes (last_behind n (plan part)) (last_before n (plan part)) m (series (repeated n (plan part)) (plan part))) (sym (left_is few))

@@ -3,13 +3,13 @@ use Rattle.std.proofs.Common.{◌≡◌, ℕ, ◌+◌, ◌<◌, Bool, false, con
 use Rattle.std.specs.List.{AllByRecursion}
 use Rattle.std.specs.Option.{option_map, option_or}
 use Rattle.std.proofs.lemmas.Bool.{leb-false, lt-leb}
-use Rattle.draft.specs.declared.refusals.Refusal.{Refusal}
-use Rattle.draft.specs.declared.refusals.Refusal.TheVariants.{PlanRow}
+use Rattle.draft.specs.declared.refusals.DraftRefusal.{DraftRefusal}
+use Rattle.plan_judging.specs.declared.refusals.PlaceRefusal.{PlaceRefusal}
+use Rattle.plan_judging.specs.declared.refusals.PlaceRefusal.TheVariants.{Row as RowRefused}
 use Rattle.netlist.specs.declared.rows.Row.{Row}
 use Rattle.netlist.specs.declared.rows.Row.TheVariants.{Branch, Earth}
 use Rattle.netlist.specs.Renaming.{renamed_row}
 use Rattle.netlist.specs.Netlist.{Netlist, with_rows}
-use Rattle.draft.specs.Refusals.{number}
 use Rattle.netlist.specs.Rows.{hits, uses}
 use Rattle.draft.specs.Rules.{row_tests, table_row}
 use Rattle.refusal.specs.Tests.{Tests, first_of}
@@ -27,7 +27,7 @@ pub unmapped : {X Y : Type 0} (f : X → Y) (o : Option X) → option_map f o �
 unmapped f None h = refl
 unmapped f (Some a) h = absurd (cc)
 
-pub all_pass : (lines : Tests) → AllByRecursion (λ line. line.0 ≡ false) lines → first_of lines ≡ None
+pub all_pass : {R : Type 0} (lines : Tests R) → AllByRecursion (λ line. line.0 ≡ false) lines → first_of lines ≡ None
 all_pass [] h = refl
 all_pass (line ∷ rest) h = ap (λ (t : Bool). cond t (Some line.1) (first_of rest)) h.0 ∙ all_pass rest h.1
 
@@ -40,7 +40,7 @@ Passing domains n used (row ∷ rows) =
 pub passing_from : (w : Netlist) (k : ℕ) (rows : List (Row ℕ)) → judge_rows w k rows ≡ None → Passing w.domains w.variables (uses w.rows) rows
 passing_from w k [] h = tt
 passing_from w k (row ∷ rows) h =
-    let why : Refusal → Refusal = λ why. PlanRow k (number why) in
+    let why : DraftRefusal → PlaceRefusal = λ why. RowRefused k why in
     let p = neither (option_map why (first_of (table_row w row))) (judge_rows (with_rows w (row ∷ [])) (k + 1) rows) h in
     let rest = passing_from (with_rows w (row ∷ [])) (k + 1) rows p.1 in
     (unmapped why _ p.0, subst (λ u. Passing w.domains w.variables u rows) (λ i v. uses_push w.rows row v i) rest)
@@ -48,10 +48,10 @@ passing_from w k (row ∷ rows) h =
 pub passing_judged : (w : Netlist) (k : ℕ) (rows : List (Row ℕ)) → Passing w.domains w.variables (uses w.rows) rows → judge_rows w k rows ≡ None
 passing_judged w k [] h = refl
 passing_judged w k (row ∷ rows) h =
-    let why : Refusal → Refusal = λ why. PlanRow k (number why) in
+    let why : DraftRefusal → PlaceRefusal = λ why. RowRefused k why in
     let next = with_rows w (row ∷ []) in
     let rest = subst (λ u. Passing w.domains w.variables u rows) (λ i v. sym (uses_push w.rows row v) i) h.1 in
-    ap (λ (o : Option Refusal). option_or (option_map why o) (judge_rows next (k + 1) rows)) h.0 ∙ passing_judged next (k + 1) rows rest
+    ap (λ (o : Option DraftRefusal). option_or (option_map why o) (judge_rows next (k + 1) rows)) h.0 ∙ passing_judged next (k + 1) rows rest
 
 pub passing_parts : (domains : List ℕ) (n : ℕ) (used : ℕ → ℕ) (xs ys : List (Row ℕ)) → Passing domains n used (xs ++ ys) → Passing domains n used xs × Passing domains n (λ v. used v + uses xs v) ys
 passing_parts domains n used [] ys h =

@@ -8,6 +8,7 @@ use Rattle.netlist.specs.declared.rows.Row.{Row}
 use Rattle.netlist.specs.Renaming.{Renaming, renamed_row}
 use Rattle.netlist.specs.Domains.{domain_number}
 use Rattle.netlist.specs.declared.terms.Term.{Term}
+use Rattle.netlist.specs.Limits.{most_nodes}
 use Rattle.netlist.specs.Netlist.{Netlist, with_nodes, term_count, term_of}
 use Rattle.netlist.specs.Rows.{uses}
 use Rattle.netlist.specs.Sound.{Sound}
@@ -137,7 +138,7 @@ module _ (b : Netlist) (p q : ℕ) (x y u v : Domain) (a c : Plan) where
       ∙ ap (λ n. term_count b.laws + n) (term_count_map term_of (placed_laws joined one) ∙ term_count_map (counted_on b.variables) a.laws)
 
   module _ (fits : Fits b p q x v whole) where
-    pub few : length b.domains + (length a.inner + length c.inner + 1) ≤ 1000
+    pub few : length b.domains + (length a.inner + length c.inner + 1) ≤ most_nodes
     few = omega (arith, fits.room.nodes, inner_of_whole)
 
     there : (num : ℕ) → placed_node b (p ∷ q ∷ []) num < length placed.domains → num < absent

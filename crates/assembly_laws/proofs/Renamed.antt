@@ -1,5 +1,5 @@
 -- Rows and laws in other numbers, and what it takes for two renamings to agree on them.
-use Rattle.std.proofs.Common.{length, ◌+◌, ◌≡◌, ℕ, ◌<◌, List, [], ◌∷◌, ◌++◌, map, refl}
+use Rattle.std.proofs.Common.{length, ◌≡◌, ℕ, ◌<◌, List, [], ◌∷◌, ◌++◌, map, refl}
 use Rattle.std.specs.List.{AllByRecursion}
 use Rattle.netlist.specs.declared.rows.Row.{Row}
 use Rattle.netlist.specs.declared.rows.Row.TheVariants.{Branch, Earth}
@@ -7,8 +7,8 @@ use Rattle.netlist.specs.Renaming.{Renaming, renamed_row}
 use Rattle.netlist.specs.Netlist.{Netlist}
 use Rattle.assembly.specs.Plans.{PlanRow}
 use Rattle.layers.specs.declared.renumbering.Renumbering.{Renumbering}
-use Rattle.layers.specs.Renumbered.{moved_node, moved_variable, moved_row}
-use Rattle.place.specs.Moved.{moved_node as seated_node, moved_row as seated_row}
+use Rattle.layers.specs.Renumbered.{renaming_of, moved_row}
+use Rattle.place.specs.Moved.{moving, moved_node as seated_node, moved_row as seated_row}
 use Rattle.assembly_laws.proofs.Passing.{Names, Kept, RowKept}
 
 -- where a plan that is placed goes on a netlist: behind all that it has
@@ -20,31 +20,23 @@ placed_row b given row = seated_row (length b.domains) b.variables given row
 
 -- from a part to its layer, and from a plan to the netlist
 abbrev pub in_layer : Renumbering → Renaming
-in_layer r = record { node = moved_node r; variable = moved_variable r }
+in_layer r = renaming_of r
 
 abbrev pub in_netlist : Netlist → List ℕ → Renaming
-in_netlist b given = record { node = placed_node b given; variable = λ v. b.variables + v }
+in_netlist b given = moving (length b.domains) b.variables given
 
 abbrev pub then : Renaming → Renaming → Renaming
 then f g = record { node = λ n. g.node (f.node n); variable = λ v. g.variable (f.variable v) }
-
-moved_is : (r : Renumbering) (row : PlanRow) → moved_row r row ≡ renamed_row (in_layer r) row
-moved_is r (Branch flow across first second) = refl
-moved_is r (Earth flow across node) = refl
-
-placed_is : (b : Netlist) (given : List ℕ) (row : Row ℕ) → placed_row b given row ≡ renamed_row (in_netlist b given) row
-placed_is b given (Branch flow across first second) = refl
-placed_is b given (Earth flow across node) = refl
 
 twice_is : (f g : Renaming) (row : Row ℕ) → renamed_row g (renamed_row f row) ≡ renamed_row (then f g) row
 twice_is f g (Branch flow across first second) = refl
 twice_is f g (Earth flow across node) = refl
 
 pub rows_moved : (r : Renumbering) (rows : List PlanRow) → map (moved_row r) rows ≡ map (renamed_row (in_layer r)) rows
-rows_moved r rows = (λ i. map (λ row. moved_is r row i) rows)
+rows_moved r rows = refl
 
 pub rows_placed : (b : Netlist) (given : List ℕ) (rows : List (Row ℕ)) → map (placed_row b given) rows ≡ map (renamed_row (in_netlist b given)) rows
-rows_placed b given rows = (λ i. map (λ row. placed_is b given row i) rows)
+rows_placed b given rows = refl
 
 pub rows_twice : (f g : Renaming) (rows : List (Row ℕ)) → map (renamed_row g) (map (renamed_row f) rows) ≡ map (renamed_row (then f g)) rows
 rows_twice f g [] = refl

@@ -2,13 +2,14 @@
 use Rattle.std.proofs.Common.{◌≡◌, ℕ, ◌+◌, ◌≤◌, sym, ap, ◌∙◌, ⊎_elim, arith}
 use Rattle.std.proofs.lemmas.Bool.{cases_lt}
 use Rattle.assembly.specs.declared.plans.Size.{Size}
+use Rattle.assembly.specs.Plans.{most_of_plan}
 use Rattle.layers.specs.declared.renumbering.Renumbering.{Renumbering}
 use Rattle.layers.specs.Renumbered.{absent, moved_node, moved_variable}
 use Rattle.series.specs.Series.{front_place, back_place}
 use Rattle.assembly_laws.proofs.Turned.{behind, behind_low, behind_high, behind_first, behind_rest}
 use Rattle.assembly_laws.proofs.Numbers.{inner_at, inner_number, no_number, variable_number, no_variable_number, by_node}
 
-module _ (s t w st tw : Size) (st_inner : st.inner ≡ s.inner + t.inner + 1) (tw_inner : tw.inner ≡ t.inner + w.inner + 1) (few : s.inner + t.inner + w.inner + 2 ≤ 6000) where
+module _ (s t w st tw : Size) (st_inner : st.inner ≡ s.inner + t.inner + 1) (tw_inner : tw.inner ≡ t.inner + w.inner + 1) (few : s.inner + t.inner + w.inner + 2 ≤ most_of_plan) where
   abbrev to : ℕ → ℕ
   to = behind (2 + s.inner + t.inner) (w.inner + 1)
 
@@ -16,7 +17,7 @@ module _ (s t w st tw : Size) (st_inner : st.inner ≡ s.inner + t.inner + 1) (t
   to_absent = behind_high (2 + s.inner + t.inner) (w.inner + 1) absent (omega arith)
 
   -- the part lacks the node, and so do the layers
-  lacks : (r : Renumbering) (k : ℕ) → k ≡ absent → r.inner ≤ 6000 → moved_node r k ≡ absent
+  lacks : (r : Renumbering) (k : ℕ) → k ≡ absent → r.inner ≤ most_of_plan → moved_node r k ≡ absent
   lacks r k e l = no_number r k (omega arith)
 
   -- the joint of the first two
@@ -75,8 +76,8 @@ module _ (s t w st tw : Size) (st_inner : st.inner ≡ s.inner + t.inner + 1) (t
       ∙ sym (lacks (back_place s tw) (moved_node (back_place t w) k) (no_number (back_place t w) k past) (omega arith)))
       (cases_lt k (2 + w.inner))
 
-module _ (s t w st tw : Size) (st_variables : st.variables ≡ s.variables + t.variables) (tw_variables : tw.variables ≡ t.variables + w.variables) (few : s.variables + t.variables + w.variables ≤ 6000) where
-  lacks_variable : (r : Renumbering) (v : ℕ) → v ≡ absent → r.variables ≤ 6000 → moved_variable r v ≡ absent
+module _ (s t w st tw : Size) (st_variables : st.variables ≡ s.variables + t.variables) (tw_variables : tw.variables ≡ t.variables + w.variables) (few : s.variables + t.variables + w.variables ≤ most_of_plan) where
+  lacks_variable : (r : Renumbering) (v : ℕ) → v ≡ absent → r.variables ≤ most_of_plan → moved_variable r v ≡ absent
   lacks_variable r v e l = no_variable_number r v (omega arith)
 
   pub first_variable : (v : ℕ) → moved_variable (front_place st w) (moved_variable (front_place s t) v) ≡ moved_variable (front_place s tw) v

@@ -17,4 +17,5 @@ joint_to_front m n o = swapped (2 + inner_count m + inner_count n) (inner_count 
 -- THEOREM: it makes no difference which two are taken together first, but for the number of a joint
 abbrev pub SeriesIsAssociative : Type 0
 SeriesIsAssociative =
-    (m n o : Meaning) → Proper m → Proper n → Proper o → MeansButNodes (joint_to_back m n o) (joint_to_front m n o) (series (series m n) o) (series m (series n o))
+    (m n o : Meaning) → Proper m → Proper n → Proper o
+    → MeansButNodes (joint_to_back m n o) (joint_to_front m n o) (series (series m n) o) (series m (series n o))

@@ -2,6 +2,7 @@
 use Rattle.std.specs.Prelude.{ℕ, ◌+◌, ◌-◌, ◌*◌, ◌<◌, ◌≤◌}
 use Rattle.assembly.specs.Meaning.{Meaning, Proper}
 use Rattle.series.specs.Series.{series}
+use Rattle.repeat.specs.Limits.{most_copies}
 use Rattle.repeat.specs.Repeat.{repeated}
 use Rattle.assembly_laws.specs.Placed.{inner_count}
 use Rattle.assembly_laws.specs.ButNodes.{MeansButNodes}
@@ -18,4 +19,5 @@ last_before n m = swapped (2 + n * inner_count m) (n - 1) (inner_count m)
 -- THEOREM: n + 1 copies are n copies in series with one more, but for the nodes' numbers
 abbrev pub OneCopyMore : Type 0
 OneCopyMore =
-    (n : ℕ) → 1 ≤ n → n < 1000 → (m : Meaning) → Proper m → MeansButNodes (last_behind n m) (last_before n m) (repeated (n + 1) m) (series (repeated n m) m)
+    (n : ℕ) → 1 ≤ n → n < most_copies → (m : Meaning) → Proper m
+    → MeansButNodes (last_behind n m) (last_before n m) (repeated (n + 1) m) (series (repeated n m) m)

@@ -46,12 +46,14 @@ pub record FitOneByOne (b : Netlist) (m n : Meaning) (p q : ℕ) : Type 0 where
 -- THEOREM: between two nodes that are drawn, a series fits exactly where its parts fit one by one
 abbrev pub SeriesFitsAsItsParts : Type 0
 SeriesFitsAsItsParts =
-    (b : Netlist) (m n : Meaning) → Proper m → Proper n → (p q : ℕ) → p < length b.domains → q < length b.domains →
-    ((judge_place b (series m n) (p ∷ q ∷ []) ≡ None) ↔ FitOneByOne b m n p q)
+    (b : Netlist) (m n : Meaning) → Proper m → Proper n → (p q : ℕ) → p < length b.domains → q < length b.domains
+    → ((judge_place b (series m n) (p ∷ q ∷ []) ≡ None) ↔ FitOneByOne b m n p q)
 
 -- THEOREM: and where it fits, both draw the same, but for the nodes' numbers; so the netlists are alike
 abbrev pub SeriesIsDrawnAsItsParts : Type 0
 SeriesIsDrawnAsItsParts =
-    (b : Netlist) → Sound b → (m n : Meaning) → Proper m → Proper n → (p q : ℕ) → judge_place b (series m n) (p ∷ q ∷ []) ≡ None →
-    SameButNodes (joint_before b m n) (joint_behind b m n) (with_assembly b (series m n) (p ∷ q ∷ [])) (with_both b m n p q)
+    (b : Netlist) → Sound b → (m n : Meaning) → Proper m → Proper n → (p q : ℕ)
+    → judge_place b (series m n) (p ∷ q ∷ []) ≡ None
+    → SameButNodes (joint_before b m n) (joint_behind b m n)
+    (with_assembly b (series m n) (p ∷ q ∷ [])) (with_both b m n p q)
     × Alike (with_assembly b (series m n) (p ∷ q ∷ [])) (with_both b m n p q)

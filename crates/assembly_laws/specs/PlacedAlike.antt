@@ -15,12 +15,14 @@ behind_drawn drawn to k = cond (nat_lt k drawn) k (drawn + (to (2 + (k - drawn))
 -- THEOREM: the one fits exactly where the other does
 abbrev pub FitAlike : Type 0
 FitAlike =
-    (b : Netlist) (to back : ℕ → ℕ) (m n : Meaning) → Proper m → MeansButNodes to back m n → (p q : ℕ) →
-    ((judge_place b m (p ∷ q ∷ []) ≡ None) ↔ (judge_place b n (p ∷ q ∷ []) ≡ None))
+    (b : Netlist) (to back : ℕ → ℕ) (m n : Meaning) → Proper m → MeansButNodes to back m n → (p q : ℕ)
+    → ((judge_place b m (p ∷ q ∷ []) ≡ None) ↔ (judge_place b n (p ∷ q ∷ []) ≡ None))
 
 -- THEOREM: and where they fit, both draw the same, but for the nodes' numbers; so the netlists are alike
 abbrev pub AreDrawnAlike : Type 0
 AreDrawnAlike =
-    (b : Netlist) → Sound b → (to back : ℕ → ℕ) (m n : Meaning) → Proper m → MeansButNodes to back m n → (p q : ℕ) → judge_place b m (p ∷ q ∷ []) ≡ None →
-    SameButNodes (behind_drawn (length b.domains) to) (behind_drawn (length b.domains) back) (with_assembly b m (p ∷ q ∷ [])) (with_assembly b n (p ∷ q ∷ []))
+    (b : Netlist) → Sound b → (to back : ℕ → ℕ) (m n : Meaning) → Proper m → MeansButNodes to back m n → (p q : ℕ)
+    → judge_place b m (p ∷ q ∷ []) ≡ None
+    → SameButNodes (behind_drawn (length b.domains) to) (behind_drawn (length b.domains) back)
+    (with_assembly b m (p ∷ q ∷ [])) (with_assembly b n (p ∷ q ∷ []))
     × Alike (with_assembly b m (p ∷ q ∷ [])) (with_assembly b n (p ∷ q ∷ []))
