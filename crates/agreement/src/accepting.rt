@@ -1,45 +1,55 @@
 //! A draft is accepted: its equations are listed, and readings of it are checked.
-ghost use Rattle.agreement.specs.Agreement.{Agreement, holding};
-ghost use Rattle.agreement.specs.Entering.{entered};
+ghost use Rattle.reading_sums.specs.Given.{given};
+ghost use Rattle.calls.specs.Calls.{entered};
+ghost use Rattle.agreement.specs.Agreement.{Agreement};
 
-use crate::calls::{Call, run};
 use assembly::Assembly;
-use checking::{Verdict, check};
+use calls::{Call, run};
+use checking::{CheckRefusal, Verdict, check};
+use draft::Draft;
+use equation::EquationRefusal;
 use equation::listing::{Listing, equations};
-use draft::refusals::Refusal;
 use netlist::spans::Span;
 use netlist::terms::Term;
 use quantity::Quantity;
-use sheet::{Draft, Sheet};
+use reading_sums::Readings;
+use sheet::Sheet;
 use walk_test::Workspace;
 
-/// The sheet that was issued; how many equations it has, or that a buffer for them is short; and what the check
-/// said, or that there is not a reading for each variable and a potential for each node.
+/// What a draft comes to.
 #[derive(Drop)]
 pub struct Acceptance {
+    /// The sheet that was issued.
     pub sheet: Sheet,
-    pub listed: Result<Listing, Refusal>,
-    pub checked: Result<Verdict, Refusal>,
+    /// How many terms and equations were listed, or that a buffer for them is short.
+    pub listed: Result<Listing, EquationRefusal>,
+    /// The verdict, or that there is not a reading for each variable and a potential for each node.
+    pub checked: Result<Verdict, CheckRefusal>,
+}
+
+/// Buffers for the equations, and for the potential of each node.
+#[derive(Drop)]
+pub struct Buffers<'a, K> {
+    pub terms: &'a mut [Term],
+    pub spans: &'a mut [Span],
+    pub potentials: &'a mut [K],
 }
 
 /// Makes the calls on a draft, issues it, lists its equations into two buffers, and checks the readings.
 pub fn accept<K: Quantity, A: Assembly>(
     mut draft: Draft,
     calls: &[Call<A>],
-    values: &[K],
-    rates: &[K],
-    terms: &mut [Term],
-    spans: &mut [Span],
-    potentials: &mut [K],
+    readings: Readings<K>,
+    buffers: &mut Buffers<K>,
     workspace: &mut Workspace,
 ) -> Acceptance
-    ensures agreement { Agreement K.group (entered A.Assembly.meaning draft calls.now) values.now rates.now
-        (holding terms.old spans.old potentials.old) (holding terms.new spans.new potentials.new) result }
+    ensures agreement { Agreement K.group (entered A.Assembly.meaning draft calls.now) (given readings.entry)
+        buffers.old buffers.new result }
 {
     run(&mut draft, calls);
     let sheet = draft.issue();
-    let listed = equations(&sheet, terms, spans);
-    let checked = check(&sheet, values, rates, potentials, workspace);
+    let listed = equations(&sheet, buffers.terms, buffers.spans);
+    let checked = check(&sheet, readings, buffers.potentials, workspace);
     Acceptance {
         sheet,
         listed,

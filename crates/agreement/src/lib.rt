@@ -1,10 +1,9 @@
-//! The calls that draw a crane, kept in a list, and what it comes to when they are accepted.
+//! The theorem on a plant that is drawn, issued and checked: what its equations say of the readings, what verdict is
+//! answered, and that neither hangs on how the plant was drawn.
 #![tactic(auto)]
 
 mod accepting;
-mod calls;
 mod requests;
 
-pub use accepting::{Acceptance, accept};
-pub use calls::{Call, run};
+pub use accepting::{Acceptance, Buffers, accept};
 pub use requests::{Request, accept_both};

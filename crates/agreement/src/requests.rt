@@ -1,26 +1,23 @@
 //! Two drafts are accepted, which may be of one plant.
-ghost use Rattle.agreement.specs.Agreement.{Agreement, BothOrNeither, holding};
-ghost use Rattle.agreement.specs.Requests.{requested, lent};
+ghost use Rattle.reading_sums.specs.Given.{given};
+ghost use Rattle.agreement.specs.Agreement.{Agreement, BothOrNeither};
+ghost use Rattle.agreement.specs.Requests.{requested};
 
-use crate::accepting::{Acceptance, accept};
-use crate::calls::Call;
+use crate::accepting::{Acceptance, Buffers, accept};
 use assembly::Assembly;
-use netlist::spans::Span;
-use netlist::terms::Term;
+use calls::Call;
+use draft::Draft;
 use quantity::Quantity;
-use sheet::Draft;
+use reading_sums::Readings;
 use walk_test::Workspace;
 
-/// What is accepted with a draft: buffers that are lent, the calls to make on the draft, and the readings.
-/// The buffers stand first, since clauses name what is left in them by their places.
+/// What is accepted with a draft: the calls to make on it, and the readings. The buffers that are lent stand first,
+/// since clauses name what is left in them by their place.
 #[derive(Drop)]
-pub struct Request<'a, K, A> {
-    pub terms: &'a mut [Term],
-    pub spans: &'a mut [Span],
-    pub potentials: &'a mut [K],
+pub struct Request<'a, 'b, K, A> {
+    pub buffers: &'a mut Buffers<'b, K>,
     pub calls: &'a [Call<'a, A>],
-    pub values: &'a [K],
-    pub rates: &'a [K],
+    pub readings: Readings<'a, K>,
 }
 
 /// Accepts two drafts, whatever assemblies each of them places. If they are of one plant, and its readings are
@@ -32,36 +29,25 @@ pub fn accept_both<K: Quantity, A: Assembly, B: Assembly>(
     second: Request<K, B>,
     workspace: &mut Workspace,
 ) -> (Acceptance, Acceptance)
-    ensures first { Agreement K.group (requested A.Assembly.meaning draft first.entry) first.entry.values.now first.entry.rates.now (lent first.entry)
-        (holding first.exit.0.now first.exit.1.0.now first.exit.1.1.0.now) result.0 }
-    ensures second { Agreement K.group (requested B.Assembly.meaning other_draft second.entry) second.entry.values.now second.entry.rates.now (lent second.entry)
-        (holding second.exit.0.now second.exit.1.0.now second.exit.1.1.0.now) result.1 }
+    ensures first { Agreement K.group (requested A.Assembly.meaning draft first.entry) (given first.entry.readings)
+        first.entry.buffers.now first.exit.0.now result.0 }
+    ensures second { Agreement K.group (requested B.Assembly.meaning other_draft second.entry)
+        (given second.entry.readings) second.entry.buffers.now second.exit.0.now result.1 }
     ensures together { BothOrNeither K.group
-        (requested A.Assembly.meaning draft first.entry) first.entry.values.now first.entry.rates.now result.0
-        (requested B.Assembly.meaning other_draft second.entry) second.entry.values.now second.entry.rates.now result.1 }
+        (requested A.Assembly.meaning draft first.entry) (given first.entry.readings) result.0
+        (requested B.Assembly.meaning other_draft second.entry) (given second.entry.readings) result.1 }
 {
     let Request {
-        terms,
-        spans,
-        potentials,
+        buffers,
         calls,
-        values,
-        rates,
+        readings,
     } = first;
-    let one = accept(
-        draft, calls, values, rates, terms, spans, potentials, workspace,
-    );
+    let one = accept(draft, calls, readings, buffers, workspace);
     let Request {
-        terms,
-        spans,
-        potentials,
+        buffers,
         calls,
-        values,
-        rates,
+        readings,
     } = second;
-    let draft = other_draft;
-    let other = accept(
-        draft, calls, values, rates, terms, spans, potentials, workspace,
-    );
+    let other = accept(other_draft, calls, readings, buffers, workspace);
     (one, other)
 }

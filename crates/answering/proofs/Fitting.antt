@@ -6,8 +6,9 @@ use Rattle.std.proofs.lemmas.Bool.{eq-eqb, eqb-true}
 use Rattle.std.proofs.lemmas.List.{length-map}
 use Rattle.quantity.specs.Group.{Group}
 use Rattle.quantity.specs.declared.numbers.Whole.{Whole}
-use Rattle.draft.specs.declared.refusals.Refusal.{Refusal}
-use Rattle.draft.specs.declared.refusals.Refusal.TheVariants.{WrongCount}
+use Rattle.checking.specs.declared.refusals.CheckRefusal.{CheckRefusal}
+use Rattle.checking.specs.declared.refusals.CheckRefusal.TheVariants.{WrongCount}
+use Rattle.network.specs.Readings.{Readings}
 use Rattle.netlist.specs.Netlist.{Netlist}
 use Rattle.refusal.specs.Tests.{first_of}
 use Rattle.text.specs.Grammar.{Bytes}
@@ -19,17 +20,17 @@ use Rattle.readings_text.specs.Readings.{Gives, ReadsReadings, ReadingsAnswer}
 use Rattle.checking.specs.declared.verdicts.Verdict.{Verdict}
 use Rattle.checking.specs.Checked.{judge_check, Checked}
 
-pub counts_fit : (b : Netlist) (v r p : ℕ) → v ≡ b.variables → r ≡ b.variables → p ≡ length b.domains → judge_check b v r p ≡ None
-counts_fit b v r p hv hr hp =
-    let one = eq-eqb v b.variables hv in
-    let two = eq-eqb r b.variables hr in
+pub counts_fit : {G : Type 0} (b : Netlist) (r : Readings G) (p : ℕ) → length r.values ≡ b.variables → length r.rates ≡ b.variables → p ≡ length b.domains → judge_check b r p ≡ None
+counts_fit b r p hv hr hp =
+    let one = eq-eqb (length r.values) b.variables hv in
+    let two = eq-eqb (length r.rates) b.variables hr in
     let three = eq-eqb p (length b.domains) hp in
     λ i. first_of ((not (one i) || not (two i) || not (three i), WrongCount) ∷ [])
 
 -- what fits is checked
-pub is_checked : {G : Type 0} (𝓖 : Group G) (b : Netlist) (values rates old new : List G) (answer : Result Verdict Refusal) → judge_check b (length values) (length rates) (length old) ≡ None → Checked 𝓖 b values rates old new answer → IsOk answer
-is_checked 𝓖 b values rates old new (Ok verdict) fits h = refl
-is_checked 𝓖 b values rates old new (Err why) fits h = let z : ◌≡◌ {A = ℕ} 0 1 = cc in absurd (omega arith)
+pub is_checked : {G : Type 0} (𝓖 : Group G) (b : Netlist) (r : Readings G) (old new : List G) (answer : Result Verdict CheckRefusal) → judge_check b r (length old) ≡ None → Checked 𝓖 b r old new answer → IsOk answer
+is_checked 𝓖 b r old new (Ok verdict) fits h = refl
+is_checked 𝓖 b r old new (Err why) fits h = let z : ◌≡◌ {A = ℕ} 0 1 = cc in absurd (omega arith)
 
 -- lines that are read to their end give so many readings as are wanted
 enough : (t : Bool) (fault : ReadingsFault) → ◌≡◌ {A = ReadingsAnswer} (Ok tt) (cond t (Ok tt) (Err fault)) → t ≡ true

@@ -1,20 +1,17 @@
 //! A sheet text and readings of its sheet are read, checked and printed.
-ghost use Rattle.std.specs.Prelude.{◌≡◌, ◌++◌, IfOk, length};
-ghost use Rattle.quantity.specs.declared.numbers.Whole.{Whole};
-ghost use Rattle.quantity.specs.Wholes.{wholes};
-ghost use Rattle.checking.specs.Potentials.{Filled};
-ghost use Rattle.checking.specs.Verdicts.{VerdictIs};
-ghost use Rattle.answering.specs.Answering.{Answered};
-ghost use Rattle.answering.specs.Answers.{accepted_text};
+ghost use Rattle.std.specs.Prelude.{◌≡◌, IfOk, length};
+ghost use Rattle.reading_sums.specs.Given.{given};
+ghost use Rattle.answering.specs.Answering.{Accepted, Answered};
 
 use crate::accepted::print_accepted;
 use crate::faults::AnswerFault;
-use agreement::accept;
+use agreement::{Buffers, accept};
 use checking::Verdict;
+use draft::Draft;
 use parts::single::Single;
 use quantity::Whole;
+use reading_sums::Readings;
 use readings_text::read_readings;
-use sheet::Draft;
 use sheet_reader::read;
 use std::alloc::{AllocError, Global};
 use walk_test::Workspace;
@@ -24,29 +21,25 @@ use walk_test::Workspace;
 fn print_draft(
     heap: Global,
     draft: Draft,
-    values: &[Whole],
-    rates: &[Whole],
+    readings: Readings<Whole>,
     potentials: &mut [Whole],
     out: &mut Vec<u8>,
 ) -> Result<Verdict, AllocError>
-    requires values { length values.now ≡ draft.variables }
-    requires rates { length rates.now ≡ draft.variables }
+    requires values { length readings.entry.values.now ≡ draft.variables }
+    requires rates { length readings.entry.rates.now ≡ draft.variables }
     requires potentials { length potentials.old ≡ length draft.domains }
-    ensures { IfOk result (λ verdict. VerdictIs wholes draft values.now rates.now verdict × Filled wholes draft values.now rates.now potentials.new verdict × (out.new.items ≡ out.old.items ++ accepted_text draft verdict potentials.new)) }
+    ensures { IfOk result (λ verdict. Accepted draft (given readings.entry) verdict potentials.new
+        out.old.items out.new.items) }
 {
     let mut workspace = Workspace::new(heap)?;
-    let accepted = accept::<Whole, Single>(
-        draft,
-        &[],
-        values,
-        rates,
-        &mut [],
-        &mut [],
+    let mut buffers = Buffers {
+        terms: &mut [],
+        spans: &mut [],
         potentials,
-        &mut workspace,
-    );
+    };
+    let accepted = accept::<Whole, Single>(draft, &[], readings, &mut buffers, &mut workspace);
     let verdict = accepted.checked.unwrap();
-    print_accepted(heap, &accepted.sheet, verdict, potentials, out)?;
+    print_accepted(heap, &accepted.sheet, verdict, buffers.potentials, out)?;
     Ok(verdict)
 }
 
@@ -71,13 +64,10 @@ pub fn answer(
         return Ok(Err(AnswerFault::Readings { fault }));
     }
     let mut potentials = vec![in heap; Whole { value: 0 }; draft.counts().nodes]?;
-    let verdict = print_draft(
-        heap,
-        draft,
-        values.as_slice(),
-        rates.as_slice(),
-        potentials.as_mut_slice(),
-        out,
-    )?;
+    let readings = Readings {
+        values: values.as_slice(),
+        rates: rates.as_slice(),
+    };
+    let verdict = print_draft(heap, draft, readings, potentials.as_mut_slice(), out)?;
     Ok(Ok(verdict))
 }

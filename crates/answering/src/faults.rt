@@ -3,6 +3,7 @@
 use readings_text::ReadingsFault;
 use sheet_reader::TextFault;
 
+/// Which of the two texts is at fault, and how.
 #[derive(Clone, Copy, PartialEq, Eq, Debug)]
 pub enum AnswerFault {
     /// The sheet text is at fault. Its readings are not read then.

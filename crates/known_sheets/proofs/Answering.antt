@@ -8,8 +8,9 @@ use Rattle.quantity.specs.Wholes.{whole, wholes}
 use Rattle.quantity.specs.declared.numbers.Whole.{Whole}
 use Rattle.quantity.specs.Group.{Group, minus}
 use Rattle.quantity.proofs.Groups.{minus_sum, negation_minus, same_from_minus}
-use Rattle.draft.specs.declared.refusals.Refusal.{Refusal}
+use Rattle.checking.specs.declared.refusals.CheckRefusal.{CheckRefusal}
 use Rattle.netlist.specs.Netlist.{Netlist}
+use Rattle.network.specs.Readings.{Readings}
 use Rattle.network.specs.ReadingsAgree.{ReadingsAgree}
 use Rattle.network.specs.Flows.{NodesKeep}
 use Rattle.network.specs.Laws.{LawsHold}
@@ -28,7 +29,7 @@ use Rattle.checking.specs.Checked.{Checked, judge_check}
 use Rattle.checking.specs.Potentials.{Filled}
 use Rattle.checking.specs.Verdicts.{VerdictIs}
 use Rattle.checking.proofs.Deciding.{one_verdict}
-use Rattle.known_sheets.specs.Cases.{IsChecked}
+use Rattle.known_sheets.specs.Cases.{IsChecked, steady}
 
 -- so of the first n numbers
 abbrev pub AllBelow : ℕ → (ℕ → Type 0) → Type 0
@@ -52,23 +53,23 @@ unfolding int_wrap
 nonzero_whole z e h = true≢false (sym (ap (λ (x : Whole). is_zero x.value) h) ∙ e)
 
 module _ {G : Type 0} (𝓖 : Group G) where
-  same_potentials : (b : Netlist) (values rates ps new : List G) (v : Verdict) → length ps ≡ length b.domains → length new ≡ length b.domains → Filled 𝓖 b values rates ps v → Filled 𝓖 b values rates new v → new ≡ ps
-  same_potentials b values rates ps new Holds each each' f h = ext_get_or 𝓖.zero new ps (each' ∙ sym each) (λ n l. f.only (read 𝓖 new) h.fits h.grounded n (omega arith))
-  same_potentials b values rates ps new (Law k) each each' f h = h ∙ ap (λ n. replicate n 𝓖.zero) (each' ∙ sym each) ∙ sym f
-  same_potentials b values rates ps new (Node n) each each' f h = h ∙ ap (λ n. replicate n 𝓖.zero) (each' ∙ sym each) ∙ sym f
-  same_potentials b values rates ps new (Row k) each each' f h = h ∙ ap (λ n. replicate n 𝓖.zero) (each' ∙ sym each) ∙ sym f
+  same_potentials : (b : Netlist) (r : Readings G) (ps new : List G) (v : Verdict) → length ps ≡ length b.domains → length new ≡ length b.domains → Filled 𝓖 b r ps v → Filled 𝓖 b r new v → new ≡ ps
+  same_potentials b r ps new Holds each each' f h = ext_get_or 𝓖.zero new ps (each' ∙ sym each) (λ n l. f.only (read 𝓖 new) h.fits h.grounded n (omega arith))
+  same_potentials b r ps new (Law k) each each' f h = h ∙ ap (λ n. replicate n 𝓖.zero) (each' ∙ sym each) ∙ sym f
+  same_potentials b r ps new (Node n) each each' f h = h ∙ ap (λ n. replicate n 𝓖.zero) (each' ∙ sym each) ∙ sym f
+  same_potentials b r ps new (Row k) each each' f h = h ∙ ap (λ n. replicate n 𝓖.zero) (each' ∙ sym each) ∙ sym f
 
-  module _ (b : Netlist) (values : List G) (verdict : Verdict) (ps : List G) (each_variable : length values ≡ b.variables) (each_node : length ps ≡ length b.domains) (is : VerdictIs 𝓖 b values (replicate (length values) 𝓖.zero) verdict) (filled : Filled 𝓖 b values (replicate (length values) 𝓖.zero) ps verdict) where
-    abbrev zeros : List G
-    zeros = replicate (length values) 𝓖.zero
+  module _ (b : Netlist) (values : List G) (verdict : Verdict) (ps : List G) (each_variable : length values ≡ b.variables) (each_node : length ps ≡ length b.domains) (is : VerdictIs 𝓖 b (steady 𝓖 values) verdict) (filled : Filled 𝓖 b (steady 𝓖 values) ps verdict) where
+    abbrev r : Readings G
+    r = steady 𝓖 values
 
-    begins : (old : List G) → length old ≡ length b.domains → judge_check b (length values) (length zeros) (length old) ≡ None
+    begins : (old : List G) → length old ≡ length b.domains → judge_check b r (length old) ≡ None
     begins old e = grind (arith, nat_tests, length-replicate)
 
-    no_other : (old new : List G) (other : Result Verdict Refusal) → length old ≡ length b.domains → Checked 𝓖 b values zeros old new other → (other ≡ Ok verdict) × (new ≡ ps)
+    no_other : (old new : List G) (other : Result Verdict CheckRefusal) → length old ≡ length b.domains → Checked 𝓖 b r old new other → (other ≡ Ok verdict) × (new ≡ ps)
     no_other old new (Ok v) e c =
-        let same : v ≡ verdict = one_verdict 𝓖 b values zeros v verdict c.2 is in
-        (ap (λ u. Ok u) same, same_potentials b values zeros ps new verdict each_node (c.1 ∙ e) filled (subst (Filled 𝓖 b values zeros new) same c.3))
+        let same : v ≡ verdict = one_verdict 𝓖 b r v verdict c.2 is in
+        (ap (λ u. Ok u) same, same_potentials b r ps new verdict each_node (c.1 ∙ e) filled (subst (Filled 𝓖 b r new) same c.3))
     no_other old new (Err why) e c =
         let judged = begins old e in
         let refused = c.0 in
@@ -77,10 +78,10 @@ module _ {G : Type 0} (𝓖 : Group G) where
     pub answers : IsChecked 𝓖 b values verdict ps
     answers = record { so = λ old e. (begins old e, each_node ∙ sym e, is, filled); only = no_other }
 
-  pub balances : (b : Netlist) (values rates ps : List G) → Drawn b.rows (length b.domains) → LawsHold 𝓖 b.laws values rates (length b.laws) → NodesKeep 𝓖 b.rows values (length b.domains) → Satisfies 𝓖 (network_of 𝓖 b.rows values) (length b.rows) (with_earth 𝓖 (read 𝓖 ps)) → ReadingsAgree 𝓖 b values rates
-  balances b values rates ps drawn laws nodes satisfied = record {
+  pub agree : (b : Netlist) (r : Readings G) (ps : List G) → Drawn b.rows (length b.domains) → LawsHold 𝓖 b.laws r (length b.laws) → NodesKeep 𝓖 b.rows r.values (length b.domains) → Satisfies 𝓖 (network_of 𝓖 b.rows r.values) (length b.rows) (with_earth 𝓖 (read 𝓖 ps)) → ReadingsAgree 𝓖 b r
+  agree b r ps drawn laws nodes satisfied = record {
     laws = laws;
-    sets = (sets_keep_as_nodes 𝓖 b.rows values (length b.domains) drawn).1 nodes;
+    sets = (sets_keep_as_nodes 𝓖 b.rows r.values (length b.domains) drawn).1 nodes;
     walks = potentials_close_walks 𝓖 _ (length b.rows) (with_earth 𝓖 (read 𝓖 ps)) satisfied;
   }
 
@@ -95,20 +96,20 @@ module _ {G : Type 0} (𝓖 : Group G) where
     first_is_lowest u s w = above 1 u s (omega arith) w
 
   -- across a row that holds, one end's potential follows from the other's
-  module _ (n : ℕ) (values rates : List G) (q : ℕ → G) (row : NetlistRow ℕ) (named : across_of row < n) (holds : equation_sum 𝓖 n values rates q (row_equation n row) ≡ 𝓖.zero) where
+  module _ (n : ℕ) (r : Readings G) (q : ℕ → G) (row : NetlistRow ℕ) (named : across_of row < n) (holds : equation_sum 𝓖 n r q (row_equation n row) ≡ 𝓖.zero) where
     abbrev start : G
     start = with_earth 𝓖 q (tail_of row)
 
     abbrev end : G
     end = with_earth 𝓖 q (head_of row)
 
-    gap : read 𝓖 values (across_of row) ≡ minus 𝓖 start end
-    gap = same_from_minus 𝓖 _ _ (sym (row_comes 𝓖 n values rates q row named) ∙ holds)
+    gap : read 𝓖 r.values (across_of row) ≡ minus 𝓖 start end
+    gap = same_from_minus 𝓖 _ _ (sym (row_comes 𝓖 n r q row named) ∙ holds)
 
-    pub end_potential : end ≡ minus 𝓖 start (read 𝓖 values (across_of row))
+    pub end_potential : end ≡ minus 𝓖 start (read 𝓖 r.values (across_of row))
     end_potential =
         sym (minus_sum 𝓖 start end)
         ∙ ap (𝓖.sum start) (sym (negation_minus 𝓖 start end) ∙ ap 𝓖.negation (sym gap))
 
-    pub start_potential : start ≡ 𝓖.sum end (read 𝓖 values (across_of row))
+    pub start_potential : start ≡ 𝓖.sum end (read 𝓖 r.values (across_of row))
     start_potential = sym (minus_sum 𝓖 end start) ∙ ap (𝓖.sum end) (sym gap)

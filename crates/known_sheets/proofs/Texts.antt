@@ -3,15 +3,15 @@ use Rattle.std.proofs.Common.{◌≡◌, sym, ◌∙◌, List, [], ◌∷◌, re
 use Rattle.std.specs.Fmt.{digits}
 use Rattle.netlist.specs.Netlist.{Netlist, empty}
 use Rattle.draft.specs.declared.refusals.Argument.TheVariants.{Across}
-use Rattle.draft.specs.declared.refusals.Refusal.TheVariants.{Taken}
+use Rattle.draft.specs.declared.refusals.DraftRefusal.TheVariants.{Taken}
+use Rattle.calls.specs.declared.refusals.CallRefusal.TheVariants.{Draft}
 use Rattle.netlist.specs.declared.rows.Row.TheVariants.{Branch, Earth}
 use Rattle.netlist.specs.declared.terms.Order.TheVariants.{Value}
-use Rattle.text.specs.declared.kinds.Kind.{Kind}
-use Rattle.text.specs.declared.kinds.Kind.TheVariants.{Number, Coefficient}
-use Rattle.text.specs.Grammar.{Bytes}
+use Rattle.netlist.specs.Limits.{most_terms_of_law}
+use Rattle.text.specs.Grammar.{Bytes, value_kinds, branch_kinds, earth_kinds, term_kinds}
 use Rattle.text.specs.Cut.{cut}
 use Rattle.sheet_reader.specs.declared.faults.TextFault.TheVariants.{Form, Refused}
-use Rattle.sheet_reader.specs.Reading.{Answer, ReadsText}
+use Rattle.sheet_reader.specs.Reading.{TextAnswer, ReadsText}
 use Rattle.sheet_reader.proofs.Laws.{reading_law}
 use Rattle.printing.specs.Printing.{printed}
 use Rattle.known_sheets.specs.Cases.{IsPrinted}
@@ -40,27 +40,24 @@ loop_drawn = record { domains = 1 ∷ []; variables = 2; rows = Branch 0 1 0 0 �
 abbrev pub one_variable_drawn : Netlist
 one_variable_drawn = record { domains = 1 ∷ []; variables = 1; rows = []; laws = [] }
 
-abbrev four : List Kind
-four = Number ∷ Number ∷ Number ∷ Number ∷ []
-
 pub resistance_read : ReadsText resistance empty (Ok tt) resistance_drawn
 unfolding cut
 resistance_read = inr (
   omega arith,
   inl (
-    (grouped (Number ∷ []) 1 1 (codes "1" ∷ []) refl, refl),
+    (grouped value_kinds 1 1 (codes "1" ∷ []) refl, refl),
     inl (
-      (grouped (Number ∷ []) 1 1 (codes "1" ∷ []) refl, refl),
+      (grouped value_kinds 1 1 (codes "1" ∷ []) refl, refl),
       inl (
-        (grouped (Number ∷ []) 1 1 (codes "4" ∷ []) refl, refl),
+        (grouped value_kinds 1 1 (codes "4" ∷ []) refl, refl),
         inl (
-          (grouped four 1 1 (codes "0" ∷ codes "1" ∷ codes "0" ∷ codes "1" ∷ []) refl, refl),
+          (grouped branch_kinds 1 1 (codes "0" ∷ codes "1" ∷ codes "0" ∷ codes "1" ∷ []) refl, refl),
           inl (
-            (grouped (Number ∷ Number ∷ Number ∷ []) 1 1 (codes "2" ∷ codes "3" ∷ codes "1" ∷ []) refl, refl),
+            (grouped earth_kinds 1 1 (codes "2" ∷ codes "3" ∷ codes "1" ∷ []) refl, refl),
             inl (
-              (grouped (Coefficient ∷ Number ∷ Number ∷ []) 8 2 (codes "200" ∷ codes "0" ∷ codes "0" ∷ codes "-1" ∷ codes "0" ∷ codes "1" ∷ []) refl, refl),
+              (grouped term_kinds most_terms_of_law 2 (codes "200" ∷ codes "0" ∷ codes "0" ∷ codes "-1" ∷ codes "0" ∷ codes "1" ∷ []) refl, refl),
               inl (
-                (grouped (Coefficient ∷ Number ∷ Number ∷ []) 8 1 (codes "1" ∷ codes "0" ∷ codes "3" ∷ []) refl, refl),
+                (grouped term_kinds most_terms_of_law 1 (codes "1" ∷ codes "0" ∷ codes "3" ∷ []) refl, refl),
                 (refl, refl),
               ),
             ),
@@ -76,19 +73,19 @@ unfolding cut
 triangle_read = inr (
   omega arith,
   inl (
-    (grouped (Number ∷ []) 1 1 (codes "1" ∷ []) refl, refl),
+    (grouped value_kinds 1 1 (codes "1" ∷ []) refl, refl),
     inl (
-      (grouped (Number ∷ []) 1 1 (codes "1" ∷ []) refl, refl),
+      (grouped value_kinds 1 1 (codes "1" ∷ []) refl, refl),
       inl (
-        (grouped (Number ∷ []) 1 1 (codes "1" ∷ []) refl, refl),
+        (grouped value_kinds 1 1 (codes "1" ∷ []) refl, refl),
         inl (
-          (grouped (Number ∷ []) 1 1 (codes "6" ∷ []) refl, refl),
+          (grouped value_kinds 1 1 (codes "6" ∷ []) refl, refl),
           inl (
-            (grouped four 1 1 (codes "0" ∷ codes "1" ∷ codes "0" ∷ codes "1" ∷ []) refl, refl),
+            (grouped branch_kinds 1 1 (codes "0" ∷ codes "1" ∷ codes "0" ∷ codes "1" ∷ []) refl, refl),
             inl (
-              (grouped four 1 1 (codes "2" ∷ codes "3" ∷ codes "1" ∷ codes "2" ∷ []) refl, refl),
+              (grouped branch_kinds 1 1 (codes "2" ∷ codes "3" ∷ codes "1" ∷ codes "2" ∷ []) refl, refl),
               inl (
-                (grouped four 1 1 (codes "4" ∷ codes "5" ∷ codes "0" ∷ codes "2" ∷ []) refl, refl),
+                (grouped branch_kinds 1 1 (codes "4" ∷ codes "5" ∷ codes "0" ∷ codes "2" ∷ []) refl, refl),
                 (refl, refl),
               ),
             ),
@@ -104,26 +101,26 @@ unfolding cut
 loop_read = inr (
   omega arith,
   inl (
-    (grouped (Number ∷ []) 1 1 (codes "1" ∷ []) refl, refl),
+    (grouped value_kinds 1 1 (codes "1" ∷ []) refl, refl),
     inl (
-      (grouped (Number ∷ []) 1 1 (codes "2" ∷ []) refl, refl),
+      (grouped value_kinds 1 1 (codes "2" ∷ []) refl, refl),
       inl (
-        (grouped four 1 1 (codes "0" ∷ codes "1" ∷ codes "0" ∷ codes "0" ∷ []) refl, refl),
+        (grouped branch_kinds 1 1 (codes "0" ∷ codes "1" ∷ codes "0" ∷ codes "0" ∷ []) refl, refl),
         (refl, refl),
       ),
     ),
   ),
 )
 
-pub one_variable_read : ReadsText one_variable empty (Err (Refused 3 (Taken Across))) one_variable_drawn
+pub one_variable_read : ReadsText one_variable empty (Err (Refused 3 (Draft (Taken Across)))) one_variable_drawn
 unfolding cut
 one_variable_read = inr (
   omega arith,
   inl (
-    (grouped (Number ∷ []) 1 1 (codes "1" ∷ []) refl, refl),
+    (grouped value_kinds 1 1 (codes "1" ∷ []) refl, refl),
     inl (
-      (grouped (Number ∷ []) 1 1 (codes "1" ∷ []) refl, refl),
-      inr ((refl, grouped four 1 1 (codes "0" ∷ codes "0" ∷ codes "0" ∷ codes "0" ∷ []) refl, refl), refl),
+      (grouped value_kinds 1 1 (codes "1" ∷ []) refl, refl),
+      inr ((refl, grouped branch_kinds 1 1 (codes "0" ∷ codes "0" ∷ codes "0" ∷ codes "0" ∷ []) refl, refl), refl),
     ),
   ),
 )
@@ -133,7 +130,7 @@ unfolding cut
 nothing_read = inr (omega arith, (refl, refl))
 
 -- what is printed of a text, and nothing else
-printed_of : (text bytes : Bytes) (answer : Answer) (b : Netlist) → ReadsText text empty answer b → bytes ≡ printed answer b → IsPrinted text answer bytes
+printed_of : (text bytes : Bytes) (answer : TextAnswer) (b : Netlist) → ReadsText text empty answer b → bytes ≡ printed answer b → IsPrinted text answer bytes
 printed_of text bytes answer b reads e = record {
   so = (b, reads, e);
   only = λ other new p.
@@ -149,9 +146,9 @@ pub nothing_prints : IsPrinted [] (Ok tt) (codes "equations 0\n")
 unfolding digits
 nothing_prints = printed_of _ _ (Ok tt) empty nothing_read refl
 
-pub one_variable_prints : IsPrinted one_variable (Err (Refused 3 (Taken Across))) (codes "fault 3 1 5 2 0\n")
+pub one_variable_prints : IsPrinted one_variable (Err (Refused 3 (Draft (Taken Across)))) (codes "fault 3 1 5 2 0\n")
 unfolding digits
-one_variable_prints = printed_of _ _ (Err (Refused 3 (Taken Across))) one_variable_drawn one_variable_read refl
+one_variable_prints = printed_of _ _ (Err (Refused 3 (Draft (Taken Across)))) one_variable_drawn one_variable_read refl
 
 half_branch_read : ReadsText half_branch empty (Err (Form 1 8)) empty
 unfolding cut

@@ -3,17 +3,15 @@ use Rattle.std.proofs.Common.{◌≡◌, ℕ, ◌+◌, ◌<◌, List, [], ◌∷
 use Rattle.quantity.specs.Integers.{integers}
 use Rattle.network.specs.Flows.{NodesKeep}
 use Rattle.network.specs.Walks.{Network, forward, backward, Drawn, Lowest, Refuted, network_of, read}
+use Rattle.network.proofs.Refuting.{refuted_from}
 use Rattle.network.proofs.Walking.{potentials_close_walks}
 use Rattle.readings.specs.Agreement.{with_earth}
 use Rattle.readings.specs.Readings.{EquationsHold}
 use Rattle.checking.specs.declared.verdicts.Verdict.TheVariants.{Holds, Node, Row}
 use Rattle.checking.specs.Potentials.{Filling, GroundedNodes}
-use Rattle.known_sheets.specs.Cases.{IsChecked}
-use Rattle.known_sheets.proofs.Answering.{below, nonzero, answers, balances, first_is_lowest}
+use Rattle.known_sheets.specs.Cases.{IsChecked, steady}
+use Rattle.known_sheets.proofs.Answering.{below, nonzero, answers, agree, first_is_lowest}
 use Rattle.known_sheets.proofs.Texts.{triangle_drawn}
-
-abbrev rates : List ℤ
-rates = replicate 6 (pos 0)
 
 -- across 3, 4 and x
 abbrev values : ℤ → List ℤ
@@ -34,14 +32,14 @@ keeps x = below 3 _ (refl, (refl, (refl, tt)))
 lowest : Lowest (R (pos 7)) 3 1
 lowest = first_is_lowest integers (R (pos 7)) 3 (below 3 _ ((omega arith, omega arith), ((omega arith, omega arith), ((omega arith, omega arith), tt))))
 
-only : (q : ℕ → ℤ) → EquationsHold integers triangle_drawn (values (pos 7)) rates q → GroundedNodes integers triangle_drawn (values (pos 7)) q → (n : ℕ) → n < 3 → q n ≡ read integers potentials n
+only : (q : ℕ → ℤ) → EquationsHold integers triangle_drawn (steady integers (values (pos 7))) q → GroundedNodes integers triangle_drawn (values (pos 7)) q → (n : ℕ) → n < 3 → q n ≡ read integers potentials n
 only q holds grounded =
     let first : q 0 ≡ pos 0 = grounded 0 (omega arith) lowest in
     let over_0 : pos 1 *ℤ pos 3 +ℤ (negsuc 0 *ℤ q 0 +ℤ (pos 1 *ℤ q 1 +ℤ pos 0)) ≡ pos 0 = holds 3 (omega arith) in
     let over_2 : pos 1 *ℤ pos 7 +ℤ (negsuc 0 *ℤ q 0 +ℤ (pos 1 *ℤ q 2 +ℤ pos 0)) ≡ pos 0 = holds 5 (omega arith) in
     below 3 _ (first, (grind arith, (grind arith, tt)))
 
-filling : Filling integers triangle_drawn (values (pos 7)) rates potentials
+filling : Filling integers triangle_drawn (steady integers (values (pos 7))) potentials
 filling = record {
   fits = below 6 _ (refl, (refl, (refl, (refl, (refl, (refl, tt))))));
   grounded = below 3 (λ n. Lowest (R (pos 7)) 3 (n + 1) → read integers potentials n ≡ pos 0) (
@@ -59,15 +57,13 @@ filling = record {
 
 pub triangle_holds : IsChecked integers triangle_drawn (values (pos 7)) Holds potentials
 triangle_holds = answers integers triangle_drawn (values (pos 7)) Holds potentials refl refl
-    (balances integers triangle_drawn (values (pos 7)) rates potentials drawn (λ k l. absurd (omega arith)) (keeps (pos 7)) (below 3 _ (refl, (refl, (refl, tt)))))
+    (agree integers triangle_drawn (steady integers (values (pos 7))) potentials drawn (λ k l. absurd (omega arith)) (keeps (pos 7)) (below 3 _ (refl, (refl, (refl, tt)))))
     filling
 
 refuted : Refuted integers (R (pos 8)) 3 2
-refuted = record {
-  within = omega arith;
-  before = potentials_close_walks integers (R (pos 8)) 2 (with_earth integers (read integers potentials)) (below 2 _ (refl, (refl, tt)));
-  here = (1, forward 0 ∷ forward 1 ∷ backward 2 ∷ [], (omega arith, refl, (omega arith, refl, (omega arith, refl, refl))), nonzero (negsuc 0) refl);
-}
+refuted = refuted_from integers _ _ _ (omega arith)
+    (potentials_close_walks integers (R (pos 8)) 2 (with_earth integers (read integers potentials)) (below 2 _ (refl, (refl, tt))))
+    ((1, forward 0 ∷ forward 1 ∷ backward 2 ∷ [], (omega arith, refl, (omega arith, refl, (omega arith, refl, refl))), nonzero (negsuc 0) refl))
 
 pub triangle_row : IsChecked integers triangle_drawn (values (pos 8)) (Row 2) (replicate 3 (pos 0))
 triangle_row = answers integers triangle_drawn (values (pos 8)) (Row 2) (replicate 3 (pos 0)) refl refl

@@ -5,15 +5,13 @@ use Rattle.quantity.specs.Wholes.{wholes, whole}
 use Rattle.quantity.specs.declared.numbers.Whole.{Whole}
 use Rattle.network.specs.Flows.{NodesKeep}
 use Rattle.network.specs.Walks.{Network, forward, Drawn, Lowest, Refuted, network_of}
+use Rattle.network.proofs.Refuting.{refuted_from}
 use Rattle.network.proofs.Walking.{potentials_close_walks}
 use Rattle.checking.specs.declared.verdicts.Verdict.TheVariants.{Holds, Row}
 use Rattle.checking.specs.Potentials.{Filling}
-use Rattle.known_sheets.specs.Cases.{IsChecked}
-use Rattle.known_sheets.proofs.Answering.{below, nonzero_whole, answers, balances, first_is_lowest}
+use Rattle.known_sheets.specs.Cases.{IsChecked, steady}
+use Rattle.known_sheets.proofs.Answering.{below, nonzero_whole, answers, agree, first_is_lowest}
 use Rattle.known_sheets.proofs.Texts.{loop_drawn}
-
-abbrev rates : List Whole
-rates = map whole (replicate 2 (pos 0))
 
 abbrev values : ℤ → List Whole
 values x = map whole (pos 9 ∷ x ∷ [])
@@ -34,7 +32,7 @@ keeps x = below 1 _ (refl, tt)
 lowest : Lowest (R (pos 0)) 1 1
 lowest = first_is_lowest wholes (R (pos 0)) 1 (below 1 _ ((omega arith, omega arith), tt))
 
-filling : Filling wholes loop_drawn (values (pos 0)) rates potentials
+filling : Filling wholes loop_drawn (steady wholes (values (pos 0))) potentials
 unfolding int_wrap
 filling = record {
   fits = below 2 _ (refl, (refl, tt));
@@ -45,16 +43,14 @@ filling = record {
 pub loop_holds : IsChecked wholes loop_drawn (values (pos 0)) Holds potentials
 unfolding int_wrap
 loop_holds = answers wholes loop_drawn (values (pos 0)) Holds potentials refl refl
-    (balances wholes loop_drawn (values (pos 0)) rates potentials drawn (λ k l. absurd (omega arith)) (keeps (pos 0)) (below 1 _ (refl, tt)))
+    (agree wholes loop_drawn (steady wholes (values (pos 0))) potentials drawn (λ k l. absurd (omega arith)) (keeps (pos 0)) (below 1 _ (refl, tt)))
     filling
 
 refuted : Refuted wholes (R (pos 1)) 1 0
 unfolding int_wrap
-refuted = record {
-  within = omega arith;
-  before = potentials_close_walks wholes (R (pos 1)) 0 (λ v. wholes.zero) (λ j l. absurd (omega arith));
-  here = (1, forward 0 ∷ [], (omega arith, refl, refl), nonzero_whole (pos 1) refl);
-}
+refuted = refuted_from wholes _ _ _ (omega arith)
+    (potentials_close_walks wholes (R (pos 1)) 0 (λ v. wholes.zero) (λ j l. absurd (omega arith)))
+    ((1, forward 0 ∷ [], (omega arith, refl, refl), nonzero_whole (pos 1) refl))
 
 pub loop_row : IsChecked wholes loop_drawn (values (pos 1)) (Row 0) potentials
 unfolding int_wrap

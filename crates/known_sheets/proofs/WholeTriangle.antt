@@ -7,17 +7,15 @@ use Rattle.quantity.specs.Wholes.{wholes, whole}
 use Rattle.quantity.specs.declared.numbers.Whole.{Whole}
 use Rattle.network.specs.Flows.{NodesKeep}
 use Rattle.network.specs.Walks.{Network, forward, backward, Drawn, Lowest, Refuted, network_of, read}
+use Rattle.network.proofs.Refuting.{refuted_from}
 use Rattle.network.proofs.Walking.{potentials_close_walks}
 use Rattle.readings.specs.Agreement.{with_earth}
 use Rattle.readings.specs.Readings.{EquationsHold}
 use Rattle.checking.specs.declared.verdicts.Verdict.TheVariants.{Holds, Node, Row}
 use Rattle.checking.specs.Potentials.{Filling, GroundedNodes}
-use Rattle.known_sheets.specs.Cases.{IsChecked}
-use Rattle.known_sheets.proofs.Answering.{end_potential, below, nonzero_whole, answers, balances, first_is_lowest}
+use Rattle.known_sheets.specs.Cases.{IsChecked, steady}
+use Rattle.known_sheets.proofs.Answering.{end_potential, below, nonzero_whole, answers, agree, first_is_lowest}
 use Rattle.known_sheets.proofs.Texts.{triangle_drawn}
-
-abbrev rates : List Whole
-rates = map whole (replicate 6 (pos 0))
 
 -- across 3, 4 and x
 abbrev values : ℤ → List Whole
@@ -39,7 +37,7 @@ keeps x = below 3 _ (refl, (refl, (refl, tt)))
 lowest : Lowest (R (pos 7)) 3 1
 lowest = first_is_lowest wholes (R (pos 7)) 3 (below 3 _ ((omega arith, omega arith), ((omega arith, omega arith), ((omega arith, omega arith), tt))))
 
-only : (q : ℕ → Whole) → EquationsHold wholes triangle_drawn (values (pos 7)) rates q → GroundedNodes wholes triangle_drawn (values (pos 7)) q → (n : ℕ) → n < 3 → q n ≡ read wholes potentials n
+only : (q : ℕ → Whole) → EquationsHold wholes triangle_drawn (steady wholes (values (pos 7))) q → GroundedNodes wholes triangle_drawn (values (pos 7)) q → (n : ℕ) → n < 3 → q n ≡ read wholes potentials n
 unfolding int_wrap
 only q holds grounded =
     let first : q 0 ≡ wholes.zero = grounded 0 (omega arith) lowest in
@@ -47,12 +45,12 @@ only q holds grounded =
     below 3 (λ n. q n ≡ read wholes potentials n) (
       first,
       (
-        end_potential wholes 6 (values (pos 7)) rates q (Branch 0 1 0 1) (omega arith) (holds 3 (omega arith)) ∙ from_first (pos 3),
-        (end_potential wholes 6 (values (pos 7)) rates q (Branch 4 5 0 2) (omega arith) (holds 5 (omega arith)) ∙ from_first (pos 7), tt),
+        end_potential wholes 6 (steady wholes (values (pos 7))) q (Branch 0 1 0 1) (omega arith) (holds 3 (omega arith)) ∙ from_first (pos 3),
+        (end_potential wholes 6 (steady wholes (values (pos 7))) q (Branch 4 5 0 2) (omega arith) (holds 5 (omega arith)) ∙ from_first (pos 7), tt),
       ),
     )
 
-filling : Filling wholes triangle_drawn (values (pos 7)) rates potentials
+filling : Filling wholes triangle_drawn (steady wholes (values (pos 7))) potentials
 unfolding int_wrap
 filling = record {
   fits = below 6 _ (refl, (refl, (refl, (refl, (refl, (refl, tt))))));
@@ -72,16 +70,14 @@ filling = record {
 pub triangle_holds : IsChecked wholes triangle_drawn (values (pos 7)) Holds potentials
 unfolding int_wrap
 triangle_holds = answers wholes triangle_drawn (values (pos 7)) Holds potentials refl refl
-    (balances wholes triangle_drawn (values (pos 7)) rates potentials drawn (λ k l. absurd (omega arith)) (keeps (pos 7)) (below 3 _ (refl, (refl, (refl, tt)))))
+    (agree wholes triangle_drawn (steady wholes (values (pos 7))) potentials drawn (λ k l. absurd (omega arith)) (keeps (pos 7)) (below 3 _ (refl, (refl, (refl, tt)))))
     filling
 
 refuted : Refuted wholes (R (pos 8)) 3 2
 unfolding int_wrap
-refuted = record {
-  within = omega arith;
-  before = potentials_close_walks wholes (R (pos 8)) 2 (with_earth wholes (read wholes potentials)) (below 2 _ (refl, (refl, tt)));
-  here = (1, forward 0 ∷ forward 1 ∷ backward 2 ∷ [], (omega arith, refl, (omega arith, refl, (omega arith, refl, refl))), nonzero_whole (negsuc 0) refl);
-}
+refuted = refuted_from wholes _ _ _ (omega arith)
+    (potentials_close_walks wholes (R (pos 8)) 2 (with_earth wholes (read wholes potentials)) (below 2 _ (refl, (refl, tt))))
+    ((1, forward 0 ∷ forward 1 ∷ backward 2 ∷ [], (omega arith, refl, (omega arith, refl, (omega arith, refl, refl))), nonzero_whole (negsuc 0) refl))
 
 pub triangle_row : IsChecked wholes triangle_drawn (values (pos 8)) (Row 2) (map whole (replicate 3 (pos 0)))
 unfolding int_wrap

@@ -7,17 +7,17 @@ use Rattle.spelling.specs.Headers.{header_text}
 use Rattle.spelling.specs.Lines.{line_text}
 use Rattle.equation.specs.Equations.{equations_of}
 use Rattle.sheet_reader.specs.Faults.{fault_line}
-use Rattle.sheet_reader.specs.Reading.{Answer, ReadsText}
+use Rattle.sheet_reader.specs.Reading.{TextAnswer, ReadsText}
 
 -- how many equations there are, and the line of each
 abbrev pub sheet_text : Netlist → Bytes
 sheet_text b = header_text (length (equations_of b)) ++ flat_map (line_text b.variables) (equations_of b)
 
 -- what is printed once a text is read with this answer and leaves this netlist
-abbrev pub printed : Answer → Netlist → Bytes
+abbrev pub printed : TextAnswer → Netlist → Bytes
 printed (Ok done) c = sheet_text c
 printed (Err fault) c = fault_line fault
 
 -- The text is read on an empty netlist with this answer, and what is printed then stands behind old.
-abbrev pub Prints : Bytes → Answer → Bytes → Bytes → Type 0
+abbrev pub Prints : Bytes → TextAnswer → Bytes → Bytes → Type 0
 Prints text r old new = (c : Netlist) × ReadsText text empty r c × (new ≡ old ++ printed r c)

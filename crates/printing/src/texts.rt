@@ -6,7 +6,7 @@ ghost use Rattle.sheet_reader.specs.Reading.{ReadsText};
 ghost use Rattle.printing.specs.Printing.{Prints, sheet_text};
 
 use crate::sheets::print_sheet;
-use sheet::Draft;
+use draft::Draft;
 use sheet_reader::{FAULT_BYTES, TextFault, read, write_fault};
 use std::alloc::{AllocError, Global};
 

@@ -1,5 +1,6 @@
 //! A text is read from a reader, and what is printed of it is written to a writer.
-ghost use Rattle.std.specs.Prelude.{◌≡◌, IfOk, IfSome, take};
+ghost use Rattle.std.specs.Prelude.{◌≡◌, ◌+◌, IfOk, IfSome, take};
+ghost use Rattle.text.specs.Limits.{most_bytes};
 ghost use Rattle.rigcobase.specs.Answering.{Answers};
 
 use printing::print_text;
@@ -13,7 +14,7 @@ const READ_BYTES: u64 = MOST_BYTES as u64 + 1;
 
 // Reads to the end of what is given, or to the end of `READ_BYTES` bytes of it.
 fn front<R: Read + Drop>(heap: Global, reader: R) -> io::Result<Vec<u8>>
-    ensures { IfOk result (λ text. IfSome (R.remaining reader) (λ given. text.items ≡ take 65537 given)) }
+    ensures { IfOk result (λ text. IfSome (R.remaining reader) (λ given. text.items ≡ take (most_bytes + 1) given)) }
 {
     let mut text = Vec::new(heap);
     reader.take(READ_BYTES).read_to_end(&mut text)?;

@@ -1,15 +1,14 @@
--- What a command does to a netlist: that of the call that it names.
-use Rattle.std.specs.Prelude.{ℕ, List, [], ◌∷◌, take, ℤ, pos, None, Option, slice_index_or}
-use Rattle.draft.specs.declared.refusals.Refusal.{Refusal}
-use Rattle.netlist.specs.declared.rows.Row.TheVariants as row
+-- What a command does to a netlist: what it enters.
+use Rattle.std.specs.Prelude.{ℕ, List, [], ◌∷◌, take, ℤ, pos, Some, None, Option, slice_index_or}
+use Rattle.netlist.specs.declared.rows.Row.TheVariants.{Branch as BranchRow, Earth as EarthRow}
 use Rattle.netlist.specs.declared.terms.RawTerm.{RawTerm}
 use Rattle.netlist.specs.Netlist.{Netlist}
-use Rattle.draft.specs.Rules.{judge_node, judge_variables, judge_row, judge_law, after_node, after_variables, after_row, after_law}
 use Rattle.assembly.specs.Meaning.{Meaning}
 use Rattle.parts.specs.declared.single.Single.{Single}
 use Rattle.parts.specs.Single.{single}
 use Rattle.repeat.specs.Repeat.{repeated}
-use Rattle.place.specs.Place.{judge_place, after_place}
+use Rattle.calls.specs.declared.refusals.CallRefusal.{CallRefusal}
+use Rattle.calls.specs.Entries.{Entry, node, variables, row, law, assembly, judge_entry, after_entry}
 use Rattle.commands.specs.declared.terms.Terms.{Terms}
 use Rattle.commands.specs.declared.command.Command.{Command}
 use Rattle.commands.specs.declared.command.Command.TheVariants.{Node, Variables, Branch, Earth, Law, Repeat, Nothing}
@@ -31,21 +30,29 @@ single_of domain cs = record {
 abbrev pub singles : ℕ → List ℤ → ℕ → Meaning
 singles domain cs times = repeated times (single (single_of domain cs))
 
-abbrev pub judge_command : Netlist → Command → Option Refusal
-judge_command b (Node domain) = judge_node b domain
-judge_command b (Variables count) = judge_variables b count
-judge_command b (Branch flow across first second) = judge_row b (row.Branch flow across first second)
-judge_command b (Earth flow across node) = judge_row b (row.Earth flow across node)
-judge_command b (Law terms) = judge_law b (law_of terms)
-judge_command b (Repeat domain cs times first second) = judge_place b (singles domain cs times) (first ∷ second ∷ [])
-judge_command b Nothing = None
+-- what the command enters; a comment and an empty line enter nothing
+abbrev pub entry_of_command : Command → Option Entry
+entry_of_command (Node domain) = Some (node domain)
+entry_of_command (Variables count) = Some (variables count)
+entry_of_command (Branch flow across first second) = Some (row (BranchRow flow across first second))
+entry_of_command (Earth flow across at) = Some (row (EarthRow flow across at))
+entry_of_command (Law terms) = Some (law (law_of terms))
+entry_of_command (Repeat domain cs times first second) =
+    Some (assembly (singles domain cs times) (first ∷ second ∷ []))
+entry_of_command Nothing = None
+
+-- nothing is not refused, and leaves the netlist as it was
+abbrev pub judge_entered : Netlist → Option Entry → Option CallRefusal
+judge_entered b None = None
+judge_entered b (Some entry) = judge_entry b entry
+
+abbrev pub after_entered : Netlist → Option Entry → Netlist
+after_entered b None = b
+after_entered b (Some entry) = after_entry b entry
+
+abbrev pub judge_command : Netlist → Command → Option CallRefusal
+judge_command b command = judge_entered b (entry_of_command command)
 
 -- a refused command leaves the netlist as it was
 abbrev pub after_command : Netlist → Command → Netlist
-after_command b (Node domain) = after_node b domain
-after_command b (Variables count) = after_variables b count
-after_command b (Branch flow across first second) = after_row b (row.Branch flow across first second)
-after_command b (Earth flow across node) = after_row b (row.Earth flow across node)
-after_command b (Law terms) = after_law b (law_of terms)
-after_command b (Repeat domain cs times first second) = after_place b (singles domain cs times) (first ∷ second ∷ [])
-after_command b Nothing = b
+after_command b command = after_entered b (entry_of_command command)

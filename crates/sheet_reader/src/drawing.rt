@@ -1,45 +1,45 @@
 //! A command is drawn: the call that it names is made.
 ghost use Rattle.std.specs.Prelude.{◌≡◌};
-ghost use Rattle.refusal.specs.Answers.{Tells};
+ghost use Rattle.refusal.specs.Tests.{answer};
 ghost use Rattle.sheet_reader.specs.Drawing.{judge_command, after_command};
 
+use calls::{Call, CallRefusal, make};
 use commands::Command;
-use draft::refusals::Refusal;
+use draft::Draft;
 use parts::single::Single;
-use place::place;
 use repeat::Repeat;
-use sheet::Draft;
+
+// A C line places singles in series, and no line another assembly.
+type LineCall<'a> = Call<'a, Repeat<Single>>;
 
 /// Draws what is commanded, or is refused as the call is.
-pub fn draw(command: Command, draft: &mut Draft) -> Result<(), Refusal>
-    ensures answer { Tells (judge_command draft.old command) result }
+pub fn draw(command: Command, draft: &mut Draft) -> Result<(), CallRefusal>
+    ensures answer { result ≡ answer (judge_command draft.old command) tt }
     ensures netlist { draft.new ≡ after_command draft.old command }
 {
     match command {
-        Command::Node { domain } => {
-            draft.node(domain)?;
-            Ok(())
-        }
-        Command::Variables { count } => {
-            draft.variables(count)?;
-            Ok(())
-        }
+        Command::Node { domain } => make(draft, &LineCall::Node { domain }),
+        Command::Variables { count } => make(draft, &LineCall::Variables { count }),
         Command::Branch {
             flow,
             across,
             first,
             second,
-        } => {
-            draft.branch(flow, across, first, second)?;
-            Ok(())
-        }
+        } => make(
+            draft,
+            &LineCall::Branch {
+                flow,
+                across,
+                first,
+                second,
+            },
+        ),
         Command::Earth { flow, across, node } => {
-            draft.earth(flow, across, node)?;
-            Ok(())
+            make(draft, &LineCall::Earth { flow, across, node })
         }
         Command::Law(terms) => {
-            draft.law(terms.as_slice())?;
-            Ok(())
+            let terms = terms.as_slice();
+            make(draft, &LineCall::Law { terms })
         }
         Command::Repeat {
             domain,
@@ -48,17 +48,33 @@ pub fn draw(command: Command, draft: &mut Draft) -> Result<(), Refusal>
             first,
             second,
         } => {
-            let [flow, across, flow_rate, across_rate] = coefficients;
-            let part = Single {
-                domain,
-                flow,
-                across,
-                flow_rate,
-                across_rate,
-            };
-            place(draft, &Repeat { part, times }, first, second)?;
-            Ok(())
+            let part = &singles(domain, coefficients, times);
+            make(
+                draft,
+                &LineCall::Place {
+                    part,
+                    first,
+                    second,
+                },
+            )
         }
         Command::Nothing => Ok(()),
+    }
+}
+
+// So many of these singles in series.
+fn singles(domain: u32, coefficients: [i64; 4], times: usize) -> Repeat<Single>
+    ensures { <Repeat<Single> as Assembly>.meaning result ≡ singles domain coefficients times }
+{
+    let [flow, across, flow_rate, across_rate] = coefficients;
+    Repeat {
+        part: Single {
+            domain,
+            flow,
+            across,
+            flow_rate,
+            across_rate,
+        },
+        times,
     }
 }

@@ -3,13 +3,15 @@
 ghost use Rattle.std.specs.Prelude.{◌≡◌, ◌≤◌, Some, length};
 ghost use Rattle.netlist.specs.Buffers.{filled};
 ghost use Rattle.spelling.specs.Rules.{judge_text, answer_text};
-ghost use Rattle.sheet_reader.specs.Faults.{line, column, number, place, cause, fault_text, fault_line};
+ghost use Rattle.sheet_reader.specs.Faults.{line_of, column_of, number_of, place_of, cause_of, fault_text, fault_line};
+ghost use Rattle.sheet_reader.specs.Faults.{most_fault_bytes};
 
-use draft::refusals::Refusal;
-use spelling::faults::{self, FaultLine};
+use calls::CallRefusal;
+use refusal::Refuses;
+use spelling::{WriteRefusal, write_numbers};
 use std::fmt;
 
-/// Lines and columns are counted from 1.
+/// Why a text is not read to its end. Lines and columns are counted from 1.
 #[derive(Clone, Copy, PartialEq, Eq, Debug)]
 pub enum TextFault {
     /// A line has no allowed form. The column is that of the first byte that no allowed line has there.
@@ -17,34 +19,40 @@ pub enum TextFault {
     /// The text is longer than a sheet text may be.
     TooLong,
     /// What a line commands is refused.
-    Refused { line: usize, why: Refusal },
+    Refused { line: usize, why: CallRefusal },
 }
 
 impl TextFault {
     /// 0 where the whole text is at fault.
-    pub fn line(self) -> usize
-        ensures { result ≡ line self }
+    pub fn line(&self) -> usize
+        ensures { result ≡ line_of self.now }
     {
-        match self {
+        match *self {
             TextFault::Form { line, .. } | TextFault::Refused { line, .. } => line,
             TextFault::TooLong => 0,
         }
     }
 
-    /// A refused call is told at column 1 of its line.
-    pub fn column(self) -> usize
-        ensures { result ≡ column self }
+    /// A refused call is told at column 1 of its line, and 0 where the whole text is at fault.
+    pub fn column(&self) -> usize
+        ensures { result ≡ column_of self.now }
     {
-        match self {
+        match *self {
             TextFault::Form { column, .. } => column,
             TextFault::TooLong => 0,
             TextFault::Refused { .. } => 1,
         }
     }
+}
 
-    pub fn number(self) -> u32
-        ensures { result ≡ number self }
-    {
+impl Refuses for TextFault {
+    ghost number = { number_of };
+
+    ghost place = { place_of };
+
+    ghost cause = { cause_of };
+
+    fn number(&self) -> u32 {
         match self {
             TextFault::Form { .. } => 11,
             TextFault::TooLong => 12,
@@ -52,18 +60,14 @@ impl TextFault {
         }
     }
 
-    pub fn place(self) -> usize
-        ensures { result ≡ place self }
-    {
+    fn place(&self) -> usize {
         match self {
             TextFault::Form { .. } | TextFault::TooLong => 0,
             TextFault::Refused { why, .. } => why.place(),
         }
     }
 
-    pub fn cause(self) -> u32
-        ensures { result ≡ cause self }
-    {
+    fn cause(&self) -> u32 {
         match self {
             TextFault::Form { .. } | TextFault::TooLong => 0,
             TextFault::Refused { why, .. } => why.cause(),
@@ -95,17 +99,17 @@ pub const FAULT_BYTES: usize = 111;
 /// Prints the fault as a line, and answers how many bytes that took. A buffer that is too short is left
 /// untouched.
 #[tactic(auto, using(crate::proofs::Told::line_told, crate::proofs::Told::line_short))]
-pub fn write_fault(fault: TextFault, buffer: &mut [u8]) -> Result<usize, Refusal>
-    ensures short { length (fault_line fault) ≤ 111 }
+pub fn write_fault(fault: TextFault, buffer: &mut [u8]) -> Result<usize, WriteRefusal>
+    ensures short { length (fault_line fault) ≤ most_fault_bytes }
     ensures answer { result ≡ answer_text buffer.old (fault_line fault) }
     ensures buffer { buffer.new ≡ filled (judge_text buffer.old (fault_line fault)) buffer.old (fault_line fault) }
 {
-    let told = FaultLine {
-        line: fault.line(),
-        column: fault.column(),
-        number: fault.number(),
-        place: fault.place(),
-        cause: fault.cause(),
-    };
-    faults::write_fault(told, buffer)
+    let numbers = [
+        fault.line(),
+        fault.column(),
+        fault.number() as usize,
+        fault.place(),
+        fault.cause() as usize,
+    ];
+    write_numbers(b"fault", &numbers, buffer)
 }

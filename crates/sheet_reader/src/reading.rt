@@ -1,18 +1,17 @@
 //! A text is read: each line is drawn before the next is read.
-ghost use Rattle.std.specs.Prelude.{◌≡◌, MatchResult};
 ghost use Rattle.text.specs.Newlines.{lines_of};
 ghost use Rattle.sheet_reader.specs.Laws.{ReadingLaw};
-ghost use Rattle.sheet_reader.specs.Reading.{AtFault, Passes, Reads, ReadsText, after_line};
+ghost use Rattle.sheet_reader.specs.Reading.{DrawsLine, ReadsLines, ReadsText};
 
 use crate::drawing::draw;
 use crate::faults::TextFault;
 use commands::read_command;
-use sheet::Draft;
+use draft::Draft;
 use text::{TextLine, fits, lines};
 
 // Draws what the line commands. A line at fault draws nothing.
 fn draw_line(line: TextLine<'_>, draft: &mut Draft) -> Result<(), TextFault>
-    ensures { MatchResult result (λ _. Passes draft.old line.entry.bytes.now × (draft.new ≡ after_line draft.old line.entry.bytes.now)) (λ f. AtFault draft.old line.entry.number line.entry.bytes.now f × (draft.new ≡ draft.old)) }
+    ensures { DrawsLine draft.old line.entry result draft.new }
 {
     let number = line.number;
     match read_command(line) {
@@ -26,7 +25,7 @@ fn draw_line(line: TextLine<'_>, draft: &mut Draft) -> Result<(), TextFault>
 
 // Draws the lines of the text in turn.
 fn draw_lines(text: &[u8], draft: &mut Draft) -> Result<(), TextFault>
-    ensures { Reads draft.old 0 (lines_of text.now) result draft.new }
+    ensures { ReadsLines draft.old 0 (lines_of text.now) result draft.new }
 {
     for line in lines(text) {
         draw_line(line, draft)?;

@@ -1,4 +1,5 @@
 use Rattle.std.proofs.Common.{◌∙◌}
+use Rattle.reading_sums.specs.Given.{given}
 use Rattle.agreement.proofs.Parts.{accepted}
 use Rattle.agreement.proofs.accepting.accept.Goals as goal
 
@@ -6,9 +7,8 @@ pub returns : goal.returns
 returns g c =
     let listed = c.equations-listed.ensures in
     record {
-      agreement = accepted g.K.Quantity.group c.args.values.now c.args.rates.now
-          (record { terms = c.args.terms.now; spans = c.args.spans.now; potentials = c.args.potentials.now })
-          (record { terms = c.equations-listed.new.terms; spans = c.equations-listed.new.spans; potentials = c.check-checked.new.potentials })
+      agreement = accepted g.K.Quantity.group (given c.args.readings) c.args.buffers.now
+          _
           (record { sheet = c.issue-sheet.result; listed = c.equations-listed.result; checked = c.check-checked.result })
           _
           (c.issue-sheet.ensures.netlist ∙ c.run.ensures)

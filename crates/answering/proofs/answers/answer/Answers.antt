@@ -22,19 +22,10 @@ print_draft-requires-clause-potentials c = c.as_mut_slice.ensures.len ∙ c.in_o
 pub returns : goal.returns
 returns c =
     let read : ReadsReadings c.args.readings_text.now c.read.new.draft.variables (Ok tt) [] [] c.read_readings.new.values.items c.read_readings.new.rates.items =
-    rw (c.new-values.ensures.items, c.new-rates.ensures.items, ap (λ n. n.variables) c.counts-wanted.ensures.value, c.in_default-2.is) at c.in_ok-fault.ensures in
-    let told = c.in_ok-verdict.ensures in
-    let is = rw (c.as_slice.ensures.value, c.as_slice-2.ensures.value) at told.0 in
-    let filled = rw (c.as_slice.ensures.value, c.as_slice-2.ensures.value) at told.1 in (
+    rw (c.new-values.ensures.items, c.new-rates.ensures.items, ap (λ n. n.variables) c.counts-wanted.ensures.value, c.in_default-2.is) at c.in_ok-fault.ensures in (
       c.read.new.draft,
+      record { values = c.read_readings.new.values.items; rates = c.read_readings.new.rates.items },
       c.print_draft.new.potentials,
-      record {
-        values = c.read_readings.new.values.items;
-        rates = c.read_readings.new.rates.items;
-        drawn = rw c.in_ok-draft.ensures at c.in_default.ensures.reads;
-        read = read;
-        is = is;
-        filled = filled;
-      },
-      told.2,
+      record { drawn = rw c.in_ok-draft.ensures at c.in_default.ensures.reads; read = read },
+      rw (c.as_slice.ensures.value, c.as_slice-2.ensures.value) at c.in_ok-verdict.ensures,
     )

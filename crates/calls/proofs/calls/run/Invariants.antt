@@ -1,6 +1,6 @@
 use Rattle.std.proofs.Common.{◌≡◌, take}
-use Rattle.agreement.specs.Entering.{entered}
-use Rattle.agreement.proofs.calls.run.Given as goal
+use Rattle.calls.specs.Calls.{entered}
+use Rattle.calls.proofs.calls.run.Given as goal
 
 -- the calls before this one are made
 abbrev pub invariant-loop-call : goal.invariant-loop-call

@@ -1,3 +1,4 @@
+//! Lines, with what each commands or where it goes wrong.
 use super::whole::{Place, first_fault};
 use commands::{Command, Terms, read_command};
 use netlist::terms::RawTerm;

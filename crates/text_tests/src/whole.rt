@@ -1,7 +1,7 @@
 //! Where a text first goes wrong.
 ghost use Rattle.std.specs.Prelude.{ℕ};
 ghost use Rattle.text.specs.Newlines.{lines_of};
-ghost use Rattle.text_trials.specs.Walk.{FirstFault};
+ghost use Rattle.text_tests.specs.Walk.{FirstFault};
 
 use commands::read_command;
 use text::lines;

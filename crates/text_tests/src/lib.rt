@@ -1,0 +1,13 @@
+//! Tests of sheet texts: a walk over a whole text, tables of lines with what is read from each, and tables of texts with
+//! what is drawn and printed of each.
+#![tactic(auto)]
+
+#[cfg(test)]
+mod faults;
+#[cfg(test)]
+mod limits;
+#[cfg(test)]
+mod lines;
+#[cfg(test)]
+mod sheets;
+pub mod whole;
