@@ -1,14 +1,14 @@
 //! Why a text is not read to its end. Users know a fault by its line and column, and by a number, a place and
 //! a cause, which are those of the refusal where a call is refused.
 ghost use Rattle.std.specs.Prelude.{◌≡◌, ◌≤◌, Some, length};
-ghost use Rattle.netlist.specs.Buffers.{filled};
-ghost use Rattle.spelling.specs.Rules.{judge_text, answer_text};
+ghost use Rattle.spelling.specs.Rules.{answer_text, printed};
 ghost use Rattle.sheet_reader.specs.Faults.{line_of, column_of, number_of, place_of, cause_of, fault_text, fault_line};
 ghost use Rattle.sheet_reader.specs.Faults.{most_fault_bytes};
 
 use calls::CallRefusal;
 use refusal::Refuses;
-use spelling::{WriteRefusal, write_numbers};
+use spelling::WriteRefusal;
+use spelling::numbers::write_numbers;
 use std::fmt;
 
 /// Why a text is not read to its end. Lines and columns are counted from 1.
@@ -102,7 +102,7 @@ pub const FAULT_BYTES: usize = 111;
 pub fn write_fault(fault: TextFault, buffer: &mut [u8]) -> Result<usize, WriteRefusal>
     ensures short { length (fault_line fault) ≤ most_fault_bytes }
     ensures answer { result ≡ answer_text buffer.old (fault_line fault) }
-    ensures buffer { buffer.new ≡ filled (judge_text buffer.old (fault_line fault)) buffer.old (fault_line fault) }
+    ensures buffer { buffer.new ≡ printed buffer.old (fault_line fault) }
 {
     let numbers = [
         fault.line(),
