@@ -1,4 +1,4 @@
-//! Trials of acceptance: one crane with a ladder of repeated parts.
+//! Tests of the agreement: one crane with a ladder of repeated parts.
 #![tactic(auto)]
 
 #[cfg(test)]

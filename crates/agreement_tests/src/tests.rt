@@ -1,14 +1,16 @@
 //! What is listed and what the check says, of readings of the crane.
 use super::crane::{LADDER, RUNG, calls, calls_again, law};
-use agreement::{Request, accept, accept_both};
-use checking::Verdict;
+use agreement::{Buffers, Request, accept, accept_both};
+use checking::{CheckRefusal, Verdict};
+use draft::Draft;
+use equation::EquationRefusal;
 use equation::listing::Listing;
-use draft::refusals::Refusal;
 use netlist::spans::Span;
 use netlist::terms::{Order, Term};
 use parts::either::Either;
 use quantity::Whole;
-use sheet::Draft;
+use reading_sums::Readings;
+use refusal::Refuses;
 use std::alloc::{AllocError, Global};
 use std::test::Fail;
 use walk_test::Workspace;
@@ -32,7 +34,7 @@ const VALUES_AGAIN: [i64; 10] = [0, 4, -9, 2, 6, 2, 3, 1, 3, 1];
 // The rate of the across of the branch that the calls draw.
 const RATE: i64 = -18;
 
-fn readings(values: [i64; 10]) -> [Whole; 10] {
+fn wholes(values: [i64; 10]) -> [Whole; 10] {
     values.map(Whole::new)
 }
 
@@ -45,7 +47,7 @@ fn with(mut readings: [Whole; 10], variable: usize, reading: i64) -> [Whole; 10]
 }
 
 fn values() -> [Whole; 10] {
-    readings(VALUES)
+    wholes(VALUES)
 }
 
 // Every rate but one is zero.
@@ -58,7 +60,7 @@ fn judged(
     heap: Global,
     values: &[Whole],
     rates: &[Whole],
-) -> Result<(Result<Verdict, Refusal>, [Whole; 3]), AllocError> {
+) -> Result<(Result<Verdict, CheckRefusal>, [Whole; 3]), AllocError> {
     let law = law(0, 1);
     let rung = Either::One(RUNG);
     let ladder = Either::Other(LADDER);
@@ -66,11 +68,12 @@ fn judged(
     let acceptance = accept(
         Draft::new(heap)?,
         &calls(&law, &rung, &ladder),
-        values,
-        rates,
-        &mut [],
-        &mut [],
-        &mut potentials,
+        Readings { values, rates },
+        &mut Buffers {
+            terms: &mut [],
+            spans: &mut [],
+            potentials: &mut potentials,
+        },
         &mut Workspace::new(heap)?,
     );
     Ok((acceptance.checked, potentials))
@@ -105,11 +108,11 @@ fn wrong_counts_of_readings(rt: HostRuntime) -> Result<(), Fail> {
     let untouched = [Whole::new(8); 3];
     let values = values();
     let rates = rates();
-    assert_eq!(rt; Refusal::WrongCount.number(), 14);
+    assert_eq!(rt; CheckRefusal::WrongCount.number(), 14);
     let short = judged(heap, &values[..9], &rates)?;
-    assert_eq!(rt; short, (Err(Refusal::WrongCount), untouched));
+    assert_eq!(rt; short, (Err(CheckRefusal::WrongCount), untouched));
     let none = judged(heap, &values, &[])?;
-    assert_eq!(rt; none, (Err(Refusal::WrongCount), untouched));
+    assert_eq!(rt; none, (Err(CheckRefusal::WrongCount), untouched));
     Ok(())
 }
 
@@ -118,7 +121,7 @@ fn listed(
     heap: Global,
     terms: &mut [Term],
     spans: &mut [Span],
-) -> Result<Result<Listing, Refusal>, AllocError> {
+) -> Result<Result<Listing, EquationRefusal>, AllocError> {
     let law = law(0, 1);
     let rung = Either::One(RUNG);
     let ladder = Either::Other(LADDER);
@@ -126,11 +129,15 @@ fn listed(
     let acceptance = accept(
         Draft::new(heap)?,
         &calls(&law, &rung, &ladder),
-        &no_readings,
-        &no_readings,
-        terms,
-        spans,
-        &mut [],
+        Readings {
+            values: &no_readings,
+            rates: &no_readings,
+        },
+        &mut Buffers {
+            terms,
+            spans,
+            potentials: &mut [],
+        },
         &mut Workspace::new(heap)?,
     );
     Ok(acceptance.listed)
@@ -164,11 +171,11 @@ fn short_buffers(rt: HostRuntime) -> Result<(), Fail> {
     let heap = rt.alloc();
     let mut terms = [BLANK; 31];
     let mut spans = [NOWHERE; 12];
-    assert_eq!(rt; Refusal::ShortBuffer.number(), 13);
+    assert_eq!(rt; EquationRefusal::ShortBuffer.number(), 13);
     let few_terms = listed(heap, &mut terms[..30], &mut spans)?;
-    assert_eq!(rt; few_terms, Err(Refusal::ShortBuffer));
+    assert_eq!(rt; few_terms, Err(EquationRefusal::ShortBuffer));
     let few_spans = listed(heap, &mut terms, &mut spans[..11])?;
-    assert_eq!(rt; few_spans, Err(Refusal::ShortBuffer));
+    assert_eq!(rt; few_spans, Err(EquationRefusal::ShortBuffer));
     assert_eq!(rt; terms, [BLANK; 31]);
     assert_eq!(rt; spans, [NOWHERE; 12]);
     Ok(())
@@ -178,27 +185,35 @@ fn short_buffers(rt: HostRuntime) -> Result<(), Fail> {
 fn judged_twice(
     heap: Global,
     earth: i64,
-) -> Result<([Result<Verdict, Refusal>; 2], [Whole; 3], [Whole; 3]), AllocError> {
+) -> Result<([Result<Verdict, CheckRefusal>; 2], [Whole; 3], [Whole; 3]), AllocError> {
     let mut potentials = [Whole::new(8); 3];
     let mut others = [Whole::new(8); 3];
     let (one, other) = accept_both(
         Draft::new(heap)?,
         Request {
-            terms: &mut [],
-            spans: &mut [],
-            potentials: &mut potentials,
+            buffers: &mut Buffers {
+                terms: &mut [],
+                spans: &mut [],
+                potentials: &mut potentials,
+            },
             calls: &calls(&law(0, 1), &Either::One(RUNG), &Either::Other(LADDER)),
-            values: &with(values(), 2, earth),
-            rates: &rates(),
+            readings: Readings {
+                values: &with(values(), 2, earth),
+                rates: &rates(),
+            },
         },
         Draft::new(heap)?,
         Request {
-            terms: &mut [],
-            spans: &mut [],
-            potentials: &mut others,
+            buffers: &mut Buffers {
+                terms: &mut [],
+                spans: &mut [],
+                potentials: &mut others,
+            },
             calls: &calls_again(&law(2, 3), &RUNG),
-            values: &with(readings(VALUES_AGAIN), 0, earth),
-            rates: &with([Whole::new(0); 10], 3, RATE),
+            readings: Readings {
+                values: &with(wholes(VALUES_AGAIN), 0, earth),
+                rates: &with([Whole::new(0); 10], 3, RATE),
+            },
         },
         &mut Workspace::new(heap)?,
     );

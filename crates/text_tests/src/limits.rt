@@ -1,6 +1,6 @@
 //! Texts of the most bytes, and of one byte more.
+use draft::Draft;
 use printing::print_text;
-use sheet::Draft;
 use sheet_reader::{TextFault, read};
 use std::alloc::{AllocError, Global};
 use std::test::Fail;

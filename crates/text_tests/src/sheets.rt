@@ -1,8 +1,12 @@
 //! Texts that are read to their end, and what is printed of them; and what a fault leaves drawn.
-use draft::refusals::{Argument, Refusal};
+use calls::CallRefusal;
+use draft::Draft;
+use plan_judging::PlaceRefusal;
 use printing::print_text;
-use sheet::{Counts, Draft};
+use refusal::Refuses;
+use sheet::Counts;
 use sheet_reader::{TextFault, read, write_fault};
+use spelling::WriteRefusal;
 use std::alloc::{AllocError, Global};
 use std::test::Fail;
 
@@ -49,9 +53,7 @@ fn nothing_drawn(rt: HostRuntime) -> Result<(), Fail> {
 fn drawn_before_a_fault(rt: HostRuntime) -> Result<(), Fail> {
     let mut draft = Draft::new(rt.alloc())?;
     let answer = read(b"N 1\nV 2\nC 1 1 1 0 0 3 0 1\nN 1\n", &mut draft);
-    let why = Refusal::NoNode {
-        argument: Argument::End { end: 1 },
-    };
+    let why = CallRefusal::Place(PlaceRefusal::NoNode { end: 1 });
     let fault = TextFault::Refused { line: 3, why };
     assert_eq!(rt; answer, Err(fault));
     let drawn = Counts {
@@ -86,6 +88,6 @@ fn lines_of_faults(rt: HostRuntime) {
     assert_eq!(rt; write_fault(fault, &mut buffer), Ok(17));
     assert_eq!(rt; buffer, *b"fault 1 8 11 0 0\nx");
     let mut short = [b'x'; 16];
-    assert_eq!(rt; write_fault(fault, &mut short), Err(Refusal::ShortBuffer));
+    assert_eq!(rt; write_fault(fault, &mut short), Err(WriteRefusal::ShortBuffer));
     assert_eq!(rt; short, [b'x'; 16]);
 }
