@@ -1,5 +1,5 @@
 //! A call with its arguments, and lists of them.
-ghost use Rattle.std.specs.Prelude.{◌≡◌};
+ghost use Rattle.std.specs.Prelude.{◌≡◌, OnErr};
 ghost use Rattle.calls.specs.Calls.{entry_of, entered};
 ghost use Rattle.calls.specs.Entries.{answer_entry, after_entry};
 
@@ -45,6 +45,7 @@ pub enum Call<'a, A> {
 pub fn make<A: Assembly>(draft: &mut Draft, call: &Call<A>) -> Result<(), CallRefusal>
     ensures answer { result ≡ answer_entry draft.old (entry_of A.Assembly.meaning call.now) }
     ensures netlist { draft.new ≡ after_entry draft.old (entry_of A.Assembly.meaning call.now) }
+    ensures kept { OnErr result (draft.new ≡ draft.old) }
 {
     match call {
         Call::Node { domain } => {

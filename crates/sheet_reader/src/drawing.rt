@@ -1,7 +1,7 @@
 //! A command is drawn: the call that it names is made.
-ghost use Rattle.std.specs.Prelude.{◌≡◌};
+ghost use Rattle.std.specs.Prelude.{◌≡◌, OnErr};
 ghost use Rattle.refusal.specs.Tests.{answer};
-ghost use Rattle.sheet_reader.specs.Drawing.{judge_command, after_command};
+ghost use Rattle.sheet_reader.specs.Drawing.{judge_command, after_command, single_of};
 
 use calls::{Call, CallRefusal, make};
 use commands::Command;
@@ -16,6 +16,7 @@ type LineCall<'a> = Call<'a, Repeat<Single>>;
 pub fn draw(command: Command, draft: &mut Draft) -> Result<(), CallRefusal>
     ensures answer { result ≡ answer (judge_command draft.old command) tt }
     ensures netlist { draft.new ≡ after_command draft.old command }
+    ensures kept { OnErr result (draft.new ≡ draft.old) }
 {
     match command {
         Command::Node { domain } => make(draft, &LineCall::Node { domain }),
@@ -64,7 +65,8 @@ pub fn draw(command: Command, draft: &mut Draft) -> Result<(), CallRefusal>
 
 // So many of these singles in series.
 fn singles(domain: u32, coefficients: [i64; 4], times: usize) -> Repeat<Single>
-    ensures { <Repeat<Single> as Assembly>.meaning result ≡ singles domain coefficients times }
+    ensures part { result.part ≡ single_of domain coefficients }
+    ensures times { result.times ≡ times }
 {
     let [flow, across, flow_rate, across_rate] = coefficients;
     Repeat {

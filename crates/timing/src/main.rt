@@ -3,32 +3,34 @@
 #![tactic(auto)]
 
 use assembly::Assembly;
+use draft::Draft;
 use equation::lines::{LINE_BYTES, line};
 use equation::listing::{equations, size};
+use netlist::limits::{MAX_LAWS, MAX_NODES, MAX_ROWS, MAX_VARIABLES};
 use netlist::spans::Span;
 use netlist::terms::{RawTerm, Term};
 use parts::single::Single;
 use place::place;
 use quantity::{Quantity, Whole};
 use repeat::Repeat;
-use sheet::{Draft, Sheet};
+use sheet::Sheet;
 use std::alloc::Global;
 use std::time::Instant;
 use walk_test::{ByVariable, Finding, Workspace, test_walks};
 
 const ASKED: usize = 100_000;
 
-// 1,000 nodes in one domain, 4,000 variables, 1,500 branches and 1,500 laws of four terms.
+// As many nodes in one domain, variables, branches and laws of four terms as a sheet may have.
 fn largest(heap: Global) -> anyhow::Result<Sheet> {
     let mut draft = Draft::new(heap)?;
-    for _ in 0..1000 {
+    for _ in 0..MAX_NODES {
         draft.node(1)?;
     }
-    draft.variables(4000)?;
-    for k in 0..1500 {
-        draft.branch(2 * k, 2 * k + 1, k % 1000, (k + 7) % 1000)?;
+    draft.variables(MAX_VARIABLES)?;
+    for k in 0..MAX_ROWS {
+        draft.branch(2 * k, 2 * k + 1, k % MAX_NODES, (k + 7) % MAX_NODES)?;
     }
-    for k in 0..1500 {
+    for k in 0..MAX_LAWS {
         let term = RawTerm::rate(-1_000_000, 2 * k);
         draft.law(&[term; 4])?;
     }
