@@ -1,5 +1,5 @@
 -- What calls make of a netlist.
-use Rattle.std.specs.Prelude.{ℕ, List, [], ◌∷◌}
+use Rattle.std.specs.Prelude.{List, [], ◌∷◌}
 use Rattle.std.specs.List.{fold}
 use Rattle.netlist.specs.declared.rows.Row.TheVariants.{Branch as BranchRow, Earth as EarthRow}
 use Rattle.netlist.specs.Netlist.{Netlist}

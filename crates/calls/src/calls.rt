@@ -14,9 +14,13 @@ use place::place;
 #[derive(Clone, Copy)]
 pub enum Call<'a, A> {
     /// A node of a domain.
-    Node { domain: u32 },
+    Node {
+        domain: u32,
+    },
     /// So many variables.
-    Variables { count: usize },
+    Variables {
+        count: usize,
+    },
     /// A branch between two nodes.
     Branch {
         flow: usize,
@@ -31,7 +35,9 @@ pub enum Call<'a, A> {
         node: usize,
     },
     /// A law of these terms.
-    Law { terms: &'a [RawTerm] },
+    Law {
+        terms: &'a [RawTerm],
+    },
     /// An assembly with its ends at two nodes.
     Place {
         part: &'a A,
