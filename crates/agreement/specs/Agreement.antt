@@ -33,7 +33,7 @@ pub record SamePlant {G : Type 0} (𝓖 : Group G) (b : Netlist) (r : Readings G
 -- potentials of the nodes satisfy all equations exactly if every law holds, nothing flows out of any set of
 -- nodes, and every closed walk adds up to zero.
 pub record ListingAgrees {G : Type 0} (𝓖 : Group G) (b : Netlist) (r : Readings G) (old new : Buffers G)
-(a : Acceptance) : Type 0 where
+    (a : Acceptance) : Type 0 where
   pub listed : a.listed ≡ answer_equations b (length old.terms.now) (length old.spans.now)
   pub terms : new.terms.now ≡ filled (judge_buffers b old) old.terms.now (flat (equations_of b))
   pub spans : new.spans.now ≡ filled (judge_buffers b old) old.spans.now (spans_from 0 (equations_of b))
@@ -43,7 +43,7 @@ pub record ListingAgrees {G : Type 0} (𝓖 : Group G) (b : Netlist) (r : Readin
 -- The verdict and the potentials are those of the readings, unless a count is wrong; and if none is, a verdict
 -- that these readings have is the one that is answered.
 pub record VerdictAgrees {G : Type 0} (𝓖 : Group G) (b : Netlist) (r : Readings G) (old new : Buffers G)
-(a : Acceptance) : Type 0 where
+    (a : Acceptance) : Type 0 where
   pub checked : Checked 𝓖 b r old.potentials.now new.potentials.now a.checked
   pub only :
       judge_check b r (length old.potentials.now) ≡ None → (v : Verdict) → VerdictIs 𝓖 b r v → a.checked ≡ Ok v
@@ -63,7 +63,7 @@ pub record PlantAgrees {G : Type 0} (𝓖 : Group G) (b : Netlist) (r : Readings
 
 -- what it comes to when a draft with netlist b is accepted, with readings of it
 pub record Agreement {G : Type 0} (𝓖 : Group G) (b : Netlist) (r : Readings G) (old new : Buffers G)
-(a : Acceptance) : Type 0 where
+    (a : Acceptance) : Type 0 where
   pub sheet : a.sheet ≡ b
   pub readings : ListingAgrees 𝓖 b r old new a
   pub verdict : VerdictAgrees 𝓖 b r old new a

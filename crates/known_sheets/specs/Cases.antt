@@ -41,7 +41,7 @@ steady 𝓖 values = record { values = values; rates = replicate (length values)
 
 -- so the readings are checked, whatever the buffer of potentials held, and it cannot be otherwise
 pub record IsChecked {G : Type 0} (𝓖 : Group G) (b : Netlist) (values : List G) (verdict : Verdict)
-(potentials : List G) : Type 0 where
+    (potentials : List G) : Type 0 where
   pub so :
       (old : List G) → length old ≡ length b.domains → Checked 𝓖 b (steady 𝓖 values) old potentials (Ok verdict)
   pub only :

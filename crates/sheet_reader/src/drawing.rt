@@ -1,16 +1,18 @@
 //! A command is drawn: the call that it names is made.
-ghost use Rattle.std.specs.Prelude.{◌≡◌, OnErr};
+ghost use Rattle.std.specs.Prelude.{◌≡◌, [], ◌∷◌, OnErr};
 ghost use Rattle.refusal.specs.Tests.{answer};
-ghost use Rattle.sheet_reader.specs.Drawing.{judge_command, after_command, single_of};
+ghost use Rattle.calls.specs.Entries.{assembly, answer_entry, after_entry};
+ghost use Rattle.sheet_reader.specs.Drawing.{judge_command, after_command, singles};
 
+use assembly::Assembly;
 use calls::{Call, CallRefusal, make};
 use commands::Command;
 use draft::Draft;
 use parts::single::Single;
 use repeat::Repeat;
 
-// A C line places singles in series, and no line another assembly.
-type LineCall<'a> = Call<'a, Repeat<Single>>;
+// A call of a line other than a C line, which places nothing.
+type LineCall<'a> = Call<'a, Single>;
 
 /// Draws what is commanded, or is refused as the call is.
 pub fn draw(command: Command, draft: &mut Draft) -> Result<(), CallRefusal>
@@ -49,34 +51,45 @@ pub fn draw(command: Command, draft: &mut Draft) -> Result<(), CallRefusal>
             first,
             second,
         } => {
-            let part = &singles(domain, coefficients, times);
-            make(
-                draft,
-                &LineCall::Place {
-                    part,
-                    first,
-                    second,
-                },
-            )
+            let part = singles(domain, coefficients, times);
+            place_part(draft, &part, first, second)
         }
         Command::Nothing => Ok(()),
     }
 }
 
+// Generic, since an enum that holds a reference may not be about a layer, which has a ghost field.
+fn place_part<A: Assembly>(
+    draft: &mut Draft,
+    part: &A,
+    first: usize,
+    second: usize,
+) -> Result<(), CallRefusal>
+    ensures answer { result ≡ answer_entry draft.old (assembly (A.Assembly.meaning part.now) (first ∷ second ∷ [])) }
+    ensures netlist { draft.new ≡ after_entry draft.old (assembly (A.Assembly.meaning part.now) (first ∷ second ∷ [])) }
+    ensures kept { OnErr result (draft.new ≡ draft.old) }
+{
+    make(
+        draft,
+        &Call::Place {
+            part,
+            first,
+            second,
+        },
+    )
+}
+
 // So many of these singles in series.
 fn singles(domain: u32, coefficients: [i64; 4], times: usize) -> Repeat<Single>
-    ensures part { result.part ≡ single_of domain coefficients }
-    ensures times { result.times ≡ times }
+    ensures { ⟦<Repeat<Single> as Assembly>⟧.meaning result ≡ singles domain coefficients times }
 {
     let [flow, across, flow_rate, across_rate] = coefficients;
-    Repeat {
-        part: Single {
-            domain,
-            flow,
-            across,
-            flow_rate,
-            across_rate,
-        },
-        times,
-    }
+    let part = Single {
+        domain,
+        flow,
+        across,
+        flow_rate,
+        across_rate,
+    };
+    Repeat::new(part, times)
 }
