@@ -6,8 +6,8 @@ use netlist::rows::Row;
 use quantity::Quantity;
 use walk_test::Across;
 
-/// A flow plays no part in the walk test.
-pub fn branch(across: usize, first: usize, second: usize) -> Row {
+// A flow plays no part in the walk test.
+pub(super) fn branch(across: usize, first: usize, second: usize) -> Row {
     Row::Branch {
         flow: 0,
         across,
@@ -16,7 +16,7 @@ pub fn branch(across: usize, first: usize, second: usize) -> Row {
     }
 }
 
-pub fn earth(across: usize, node: usize) -> Row {
+pub(super) fn earth(across: usize, node: usize) -> Row {
     Row::Earth {
         flow: 0,
         across,
@@ -24,10 +24,10 @@ pub fn earth(across: usize, node: usize) -> Row {
     }
 }
 
-/// One reading for each row, in row order.
+// One reading for each row, in row order.
 #[derive(Clone, Copy)]
-pub struct ByRow<'a, K> {
-    pub readings: &'a [K],
+pub(super) struct ByRow<'a, K> {
+    pub(super) readings: &'a [K],
 }
 
 impl<K: Quantity> Across<K> for ByRow<'_, K> {

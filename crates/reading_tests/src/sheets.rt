@@ -1,11 +1,12 @@
 //! Small sheets.
+use draft::Draft;
 use netlist::terms::RawTerm;
-use sheet::{Draft, Sheet};
+use sheet::Sheet;
 use std::alloc::Global;
 use std::test::Fail;
 
-/// Three nodes with a branch between each two of them.
-pub fn triangle(heap: Global) -> Result<Sheet, Fail> {
+// Three nodes with a branch between each two of them.
+pub(super) fn triangle(heap: Global) -> Result<Sheet, Fail> {
     let mut draft = Draft::new(heap)?;
     draft.node(1)?;
     draft.node(1)?;
@@ -17,8 +18,8 @@ pub fn triangle(heap: Global) -> Result<Sheet, Fail> {
     Ok(draft.issue())
 }
 
-/// One node, and a branch from it to itself.
-pub fn ring(heap: Global) -> Result<Sheet, Fail> {
+// One node, and a branch from it to itself.
+pub(super) fn ring(heap: Global) -> Result<Sheet, Fail> {
     let mut draft = Draft::new(heap)?;
     draft.node(1)?;
     draft.variables(2)?;
@@ -26,8 +27,8 @@ pub fn ring(heap: Global) -> Result<Sheet, Fail> {
     Ok(draft.issue())
 }
 
-/// A branch and an earth behind it: the across of the one is 200 times its flow, that of the other is zero.
-pub fn drive(heap: Global) -> Result<Sheet, Fail> {
+// A branch and an earth behind it: the across of the one is 200 times its flow, that of the other is zero.
+pub(super) fn drive(heap: Global) -> Result<Sheet, Fail> {
     let mut draft = Draft::new(heap)?;
     draft.node(1)?;
     draft.node(1)?;
@@ -39,8 +40,8 @@ pub fn drive(heap: Global) -> Result<Sheet, Fail> {
     Ok(draft.issue())
 }
 
-/// Two variables without rows: the value of one is the rate of the other.
-pub fn rate(heap: Global) -> Result<Sheet, Fail> {
+// Two variables without rows: the value of one is the rate of the other.
+pub(super) fn rate(heap: Global) -> Result<Sheet, Fail> {
     let mut draft = Draft::new(heap)?;
     draft.variables(2)?;
     draft.law(&[RawTerm::value(1, 0), RawTerm::rate(-1, 1)])?;

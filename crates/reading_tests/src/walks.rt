@@ -1,10 +1,11 @@
 //! What the walk test finds.
 use super::rows::{ByRow, branch, earth};
+use netlist::limits::MAX_NODES;
 use netlist::rows::Row;
 use quantity::{Phasor, Whole};
 use std::alloc::{AllocError, Global};
 use std::test::Fail;
-use walk_test::{ByVariable, Finding, MAX_NODES, Misfit, Workspace, clear, test_walks};
+use walk_test::{ByVariable, Finding, Misfit, Workspace, clear, test_walks};
 
 fn triangle() -> [Row; 3] {
     [branch(0, 0, 1), branch(1, 1, 2), branch(2, 0, 2)]

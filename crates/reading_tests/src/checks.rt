@@ -1,17 +1,30 @@
 //! What the check says of them.
 use super::sheets::{drive, rate, ring, triangle};
-use checking::{Verdict, check, check_whole, one_verdict};
-use draft::refusals::Refusal;
-use quantity::{Phasor, Whole};
-use sheet::Draft;
+use checking::{CheckRefusal, Verdict, check, check_whole, one_verdict};
+use draft::Draft;
+use quantity::{Phasor, Quantity, Whole};
+use reading_sums::Readings;
+use refusal::Refuses;
+use sheet::Sheet;
 use std::test::Fail;
 use walk_test::Workspace;
 
 // The flows go once round, and the across readings are a, b and c.
-fn readings(a: i64, b: i64, c: i64) -> [Whole; 6] {
+fn round(a: i64, b: i64, c: i64) -> [Whole; 6] {
     let one = Whole::new(1);
     let back = Whole::new(-1);
     [one, Whole::new(a), one, Whole::new(b), back, Whole::new(c)]
+}
+
+// The check of values and rates that are borrowed apart.
+fn judged<K: Quantity>(
+    sheet: &Sheet,
+    values: &[K],
+    rates: &[K],
+    potentials: &mut [K],
+    workspace: &mut Workspace,
+) -> Result<Verdict, CheckRefusal> {
+    check(sheet, Readings { values, rates }, potentials, workspace)
 }
 
 #[test]
@@ -20,9 +33,9 @@ fn triangle_holds(rt: HostRuntime) -> Result<(), Fail> {
     let mut workspace = Workspace::new(rt.alloc())?;
     let rates = [Whole::new(0); 6];
     let mut potentials = [Whole::new(5); 3];
-    let verdict = check(
+    let verdict = judged(
         &sheet,
-        &readings(3, 4, 7),
+        &round(3, 4, 7),
         &rates,
         &mut potentials,
         &mut workspace,
@@ -40,8 +53,10 @@ fn triangle_is_open(rt: HostRuntime) -> Result<(), Fail> {
     let mut potentials = [Whole::new(5); 3];
     let verdict = check_whole(
         &sheet,
-        &readings(3, 4, 8),
-        &rates,
+        Readings {
+            values: &round(3, 4, 8),
+            rates: &rates,
+        },
         &mut potentials,
         &mut workspace,
     );
@@ -55,11 +70,11 @@ fn triangle_is_open(rt: HostRuntime) -> Result<(), Fail> {
 fn triangle_leaks(rt: HostRuntime) -> Result<(), Fail> {
     let sheet = triangle(rt.alloc())?;
     let mut workspace = Workspace::new(rt.alloc())?;
-    let mut values = readings(3, 4, 7);
+    let mut values = round(3, 4, 7);
     values[4] = Whole::new(1);
     let rates = [Whole::new(0); 6];
     let mut potentials = [Whole::new(5); 3];
-    let verdict = check(&sheet, &values, &rates, &mut potentials, &mut workspace);
+    let verdict = judged(&sheet, &values, &rates, &mut potentials, &mut workspace);
     assert_eq!(rt; verdict, Ok(Verdict::Node { node: 0 }));
     assert_eq!(rt; potentials, [Whole::new(0); 3]);
     Ok(())
@@ -73,11 +88,11 @@ fn ring_closes(rt: HostRuntime) -> Result<(), Fail> {
     let rates = [Whole::new(0); 2];
     let mut potentials = [Whole::new(5)];
     let values = [Whole::new(9), Whole::new(0)];
-    let verdict = check(&sheet, &values, &rates, &mut potentials, &mut workspace);
+    let verdict = judged(&sheet, &values, &rates, &mut potentials, &mut workspace);
     assert_eq!(rt; verdict, Ok(Verdict::Holds));
     assert_eq!(rt; potentials, [Whole::new(0)]);
     let values = [Whole::new(9), Whole::new(1)];
-    let verdict = check(&sheet, &values, &rates, &mut potentials, &mut workspace);
+    let verdict = judged(&sheet, &values, &rates, &mut potentials, &mut workspace);
     assert_eq!(rt; verdict, Ok(Verdict::Row { row: 0 }));
     assert_eq!(rt; potentials, [Whole::new(0)]);
     Ok(())
@@ -88,7 +103,7 @@ fn empty_sheet_holds(rt: HostRuntime) -> Result<(), Fail> {
     let sheet = Draft::new(rt.alloc())?.issue();
     let mut workspace = Workspace::new(rt.alloc())?;
     let none: [Whole; 0] = [];
-    let verdict = check(&sheet, &none, &none, &mut [], &mut workspace);
+    let verdict = judged(&sheet, &none, &none, &mut [], &mut workspace);
     assert_eq!(rt; verdict, Ok(Verdict::Holds));
     Ok(())
 }
@@ -100,11 +115,11 @@ fn drive_rests(rt: HostRuntime) -> Result<(), Fail> {
     let rates = [Whole::new(0); 4];
     let mut values = [Whole::new(0); 4];
     let mut potentials = [Whole::new(5); 2];
-    let verdict = check(&sheet, &values, &rates, &mut potentials, &mut workspace);
+    let verdict = judged(&sheet, &values, &rates, &mut potentials, &mut workspace);
     assert_eq!(rt; verdict, Ok(Verdict::Holds));
     assert_eq!(rt; potentials, [Whole::new(0); 2]);
     values[1] = Whole::new(5);
-    let verdict = check(&sheet, &values, &rates, &mut potentials, &mut workspace);
+    let verdict = judged(&sheet, &values, &rates, &mut potentials, &mut workspace);
     assert_eq!(rt; verdict, Ok(Verdict::Law { law: 0 }));
     Ok(())
 }
@@ -117,13 +132,13 @@ fn laws_come_before_nodes(rt: HostRuntime) -> Result<(), Fail> {
     let rates = [Whole::new(0); 4];
     let values = [Whole::new(1), Whole::new(7), Whole::new(3), Whole::new(2)];
     let mut potentials = [Whole::new(5); 2];
-    let verdict = check(&sheet, &values, &rates, &mut potentials, &mut workspace);
+    let verdict = judged(&sheet, &values, &rates, &mut potentials, &mut workspace);
     assert_eq!(rt; verdict, Ok(Verdict::Law { law: 0 }));
     let values = [Whole::new(1), Whole::new(200), Whole::new(3), Whole::new(2)];
-    let verdict = check(&sheet, &values, &rates, &mut potentials, &mut workspace);
+    let verdict = judged(&sheet, &values, &rates, &mut potentials, &mut workspace);
     assert_eq!(rt; verdict, Ok(Verdict::Law { law: 1 }));
     let values = [Whole::new(1), Whole::new(200), Whole::new(3), Whole::new(0)];
-    let verdict = check(&sheet, &values, &rates, &mut potentials, &mut workspace);
+    let verdict = judged(&sheet, &values, &rates, &mut potentials, &mut workspace);
     assert_eq!(rt; verdict, Ok(Verdict::Node { node: 0 }));
     Ok(())
 }
@@ -136,9 +151,9 @@ fn rates_are_read(rt: HostRuntime) -> Result<(), Fail> {
     let mut workspace = Workspace::new(rt.alloc())?;
     let values = [Phasor::new(3, 4), Phasor::new(5, 6)];
     let rates = [Phasor::new(7, 8), Phasor::new(3, 4)];
-    let verdict = check(&sheet, &values, &rates, &mut [], &mut workspace);
+    let verdict = judged(&sheet, &values, &rates, &mut [], &mut workspace);
     assert_eq!(rt; verdict, Ok(Verdict::Holds));
-    let verdict = check(&sheet, &rates, &values, &mut [], &mut workspace);
+    let verdict = judged(&sheet, &rates, &values, &mut [], &mut workspace);
     assert_eq!(rt; verdict, Ok(Verdict::Law { law: 0 }));
     Ok(())
 }
@@ -149,9 +164,9 @@ fn wrong_counts_are_refused(rt: HostRuntime) -> Result<(), Fail> {
     let mut workspace = Workspace::new(rt.alloc())?;
     let readings = [Whole::new(0); 5];
     let mut potentials = [Whole::new(5); 2];
-    let why = Refusal::WrongCount;
+    let why = CheckRefusal::WrongCount;
     assert_eq!(rt; why.number(), 14);
-    let refused = check(
+    let refused = judged(
         &sheet,
         &readings[..3],
         &readings[..4],
@@ -159,7 +174,7 @@ fn wrong_counts_are_refused(rt: HostRuntime) -> Result<(), Fail> {
         &mut workspace,
     );
     assert_eq!(rt; refused, Err(why));
-    let refused = check(
+    let refused = judged(
         &sheet,
         &readings[..4],
         &readings,
@@ -169,8 +184,10 @@ fn wrong_counts_are_refused(rt: HostRuntime) -> Result<(), Fail> {
     assert_eq!(rt; refused, Err(why));
     let refused = check_whole(
         &sheet,
-        &readings[..4],
-        &readings[..4],
+        Readings {
+            values: &readings[..4],
+            rates: &readings[..4],
+        },
         &mut potentials[..1],
         &mut workspace,
     );
