@@ -1,5 +1,5 @@
 //! Layers of known parts, and the numbers that they give.
-use super::trial_parts::{Coupler, Nothing};
+use super::example_parts::{Coupler, Nothing};
 use assembly::Assembly;
 use assembly::plans::{PlanRow, PlanTerm, Size};
 use netlist::domains::Domain;
@@ -23,10 +23,7 @@ fn motor() -> Coupler {
 
 #[test]
 fn repeat_of_three(rt: HostRuntime) {
-    let chain = Repeat {
-        part: shaft(),
-        times: 3,
-    };
+    let chain = Repeat::new(shaft(), 3);
     assert_eq!(rt;
         chain.size(),
         Some(Size {
@@ -63,10 +60,7 @@ fn repeat_of_three(rt: HostRuntime) {
 
 #[test]
 fn series_has_a_joint(rt: HostRuntime) {
-    let drive = Series {
-        first: motor(),
-        second: shaft(),
-    };
+    let drive = Series::new(motor(), shaft());
     assert_eq!(rt;
         drive.size(),
         Some(Size {
@@ -96,10 +90,7 @@ fn series_has_a_joint(rt: HostRuntime) {
 
 #[test]
 fn beside_keeps_its_ends(rt: HostRuntime) {
-    let pair = SideBySide {
-        one: motor(),
-        other: motor(),
-    };
+    let pair = SideBySide::new(motor(), motor());
     assert_eq!(rt;
         pair.size(),
         Some(Size {
@@ -125,83 +116,23 @@ fn beside_keeps_its_ends(rt: HostRuntime) {
 
 #[test]
 fn void_layers(rt: HostRuntime) {
-    assert!(rt;
-        Repeat {
-            part: shaft(),
-            times: 0,
-        }
-        .is_void()
-    );
-    assert!(rt;
-        Repeat {
-            part: shaft(),
-            times: 1001,
-        }
-        .is_void()
-    );
-    assert!(rt;
-        Repeat {
-            part: motor(),
-            times: 1,
-        }
-        .is_void()
-    );
-    assert!(rt;
-        Series {
-            first: shaft(),
-            second: motor(),
-        }
-        .is_void()
-    );
-    assert!(rt;
-        SideBySide {
-            one: shaft(),
-            other: motor(),
-        }
-        .is_void()
-    );
-    assert!(rt;
-        Series {
-            first: shaft(),
-            second: Nothing,
-        }
-        .is_void()
-    );
-    assert!(rt;
-        SideBySide {
-            one: Nothing,
-            other: shaft(),
-        }
-        .is_void()
-    );
-    assert!(rt;
-        !Repeat {
-            part: shaft(),
-            times: 1,
-        }
-        .is_void()
-    );
+    assert!(rt; Repeat::new(shaft(), 0).is_void());
+    assert!(rt; Repeat::new(shaft(), 1001).is_void());
+    assert!(rt; Repeat::new(motor(), 1).is_void());
+    assert!(rt; Series::new(shaft(), motor()).is_void());
+    assert!(rt; SideBySide::new(shaft(), motor()).is_void());
+    assert!(rt; Series::new(shaft(), Nothing).is_void());
+    assert!(rt; SideBySide::new(Nothing, shaft()).is_void());
+    assert!(rt; !Repeat::new(shaft(), 1).is_void());
     // A thousand copies of a part with seven rows or more have too many.
-    let part = Repeat {
-        part: shaft(),
-        times: 4,
-    };
-    assert!(rt; Repeat { part, times: 1000 }.is_void());
+    let part = Repeat::new(shaft(), 4);
+    assert!(rt; Repeat::new(part, 1000).is_void());
 }
 
 #[test]
 fn nested_layers(rt: HostRuntime) {
-    let chain = Repeat {
-        part: shaft(),
-        times: 2,
-    };
-    let drive = Series {
-        first: motor(),
-        second: SideBySide {
-            one: chain,
-            other: shaft(),
-        },
-    };
+    let chain = Repeat::new(shaft(), 2);
+    let drive = Series::new(motor(), SideBySide::new(chain, shaft()));
     assert_eq!(rt;
         drive.size(),
         Some(Size {

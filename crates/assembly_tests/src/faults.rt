@@ -1,13 +1,15 @@
 //! Why an assembly is not placed: the first of its faults is told.
 use assembly::plans::{PlanRow, PlanTerm};
-use draft::refusals::{Refusal, Table};
+use draft::{Draft, DraftRefusal, Table};
 use netlist::spans::Span;
 use parts::single::Single;
 use parts::stored::Stored;
 use parts::tables::Tables;
 use place::place;
+use plan_judging::PlaceRefusal;
+use refusal::Refuses;
 use repeat::Repeat;
-use sheet::{Counts, Draft};
+use sheet::Counts;
 use std::test::Fail;
 
 const SHAFT: Single = Single {
@@ -33,7 +35,7 @@ const LAW: [Span; 1] = [Span {
 }];
 
 // Three nodes of domains 2, 2 and 1, and two variables that a branch has.
-fn draw(draft: &mut Draft) -> Result<usize, Refusal> {
+fn draw(draft: &mut Draft) -> Result<usize, DraftRefusal> {
     draft.node(2)?;
     draft.node(2)?;
     draft.node(1)?;
@@ -55,7 +57,7 @@ fn stored<'a>(rows: &'a [PlanRow], laws: &'a [Span], terms: &'a [PlanTerm]) -> S
 }
 
 // Number, place and cause of what a call answers.
-fn told(answer: Result<Counts, Refusal>) -> Option<(u32, usize, u32)> {
+fn told(answer: Result<Counts, PlaceRefusal>) -> Option<(u32, usize, u32)> {
     let why = answer.err()?;
     Some((why.number(), why.place(), why.cause()))
 }
@@ -162,10 +164,7 @@ fn ends_before_rows_before_laws(rt: HostRuntime) -> Result<(), Fail> {
 fn tables_in_their_order(rt: HostRuntime) -> Result<(), Fail> {
     let mut draft = Draft::new(rt.alloc())?;
     draw(&mut draft)?;
-    let right = Repeat {
-        part: SHAFT,
-        times: 900,
-    };
+    let right = Repeat::new(SHAFT, 900);
     place(&mut draft, &right, 0, 1)?;
     // 902 nodes, 1,802 variables, 901 rows and 900 laws of two terms are drawn.
     let plan = Stored::new(Tables {
@@ -177,11 +176,11 @@ fn tables_in_their_order(rt: HostRuntime) -> Result<(), Fail> {
         laws: &[],
         terms: &[],
     });
-    let variables = Refusal::Limit {
+    let variables = PlaceRefusal::Limit {
         table: Table::Variables,
     };
     assert_eq!(rt; place(&mut draft, &plan, 0, 1), Err(variables));
-    let nodes = Refusal::Limit {
+    let nodes = PlaceRefusal::Limit {
         table: Table::Nodes,
     };
     assert_eq!(rt; place(&mut draft, &right, 0, 1), Err(nodes));
@@ -197,18 +196,12 @@ fn plan_before_room(rt: HostRuntime) -> Result<(), Fail> {
         flow: 2_000_000,
         ..SHAFT
     };
-    let long = Repeat {
-        part: wrong,
-        times: 1000,
-    };
+    let long = Repeat::new(wrong, 1000);
     assert_eq!(rt; told(place(&mut draft, &long, 0, 1)), Some((9, 10_000, 6)));
-    let right = Repeat {
-        part: SHAFT,
-        times: 1000,
-    };
+    let right = Repeat::new(SHAFT, 1000);
     assert_eq!(rt;
         place(&mut draft, &right, 0, 1),
-        Err(Refusal::Limit {
+        Err(PlaceRefusal::Limit {
             table: Table::Nodes,
         })
     );

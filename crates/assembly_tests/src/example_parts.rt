@@ -1,5 +1,5 @@
 //! Two assemblies to make layers of.
-ghost use Rattle.layers_trials.specs.Parts.{coupler, nothing};
+ghost use Rattle.assembly_tests.specs.ExampleParts.{coupler, nothing};
 
 use assembly::Assembly;
 use assembly::plans::{PlanRow, PlanTerm, Size};
@@ -8,9 +8,9 @@ use netlist::domains::Domain;
 /// An inner node of the second end's domain, a branch to it from the first end, a row that names a node
 /// and a variable that are not there, and a law of one term.
 #[derive(Clone, Copy)]
-pub struct Coupler {
-    pub first: Domain,
-    pub second: Domain,
+pub(super) struct Coupler {
+    pub(super) first: Domain,
+    pub(super) second: Domain,
 }
 
 impl Assembly for Coupler {
@@ -65,7 +65,7 @@ impl Assembly for Coupler {
 
 /// A void assembly.
 #[derive(Clone, Copy)]
-pub struct Nothing;
+pub(super) struct Nothing;
 
 impl Assembly for Nothing {
     ghost meaning = { nothing };

@@ -1,13 +1,14 @@
 //! What a placed assembly draws.
 use assembly::Assembly;
 use assembly::plans::Size;
+use draft::{Draft, DraftRefusal, Table};
 use equation::lines::line;
-use draft::refusals::{Refusal, Table};
 use netlist::rows::Row;
 use parts::single::Single;
 use place::place;
+use plan_judging::PlaceRefusal;
 use repeat::Repeat;
-use sheet::{Counts, Draft, Sheet};
+use sheet::{Counts, Sheet};
 use std::test::Fail;
 
 const SPRING: Single = Single {
@@ -18,20 +19,18 @@ const SPRING: Single = Single {
     across_rate: 0,
 };
 
-const CHAIN: Repeat<Single> = Repeat {
-    part: SPRING,
-    times: 3,
-};
+fn chain() -> Repeat<Single> {
+    Repeat::new(SPRING, 3)
+}
 
-const NO_CHAIN: Repeat<Single> = Repeat {
-    part: SPRING,
-    times: 0,
-};
+fn no_chain() -> Repeat<Single> {
+    Repeat::new(SPRING, 0)
+}
 
 #[test]
 fn chain_of_three(rt: HostRuntime) {
     assert_eq!(rt;
-        CHAIN.size(),
+        chain().size(),
         Some(Size {
             ends: 2,
             inner: 2,
@@ -40,16 +39,16 @@ fn chain_of_three(rt: HostRuntime) {
             laws: 3,
         })
     );
-    assert!(rt; NO_CHAIN.is_void());
+    assert!(rt; no_chain().is_void());
 }
 
 // Two nodes, an earth at the first, and between them the chain.
-fn drawn(draft: &mut Draft) -> Result<Counts, Refusal> {
+fn drawn(draft: &mut Draft) -> Result<Counts, Fail> {
     draft.node(3)?;
     draft.node(3)?;
     draft.variables(2)?;
     draft.earth(0, 1, 0)?;
-    place(draft, &CHAIN, 0, 1)
+    Ok(place(draft, &chain(), 0, 1)?)
 }
 
 // The two joints are nodes 2 and 3, and the variables are counted on from 2.
@@ -95,10 +94,7 @@ fn chain_lies_between_its_nodes(rt: HostRuntime) -> Result<(), Fail> {
 // Both ends may be placed at one node.
 #[test]
 fn ring_of_a_thousand(rt: HostRuntime) -> Result<(), Fail> {
-    let ring = Repeat {
-        part: SPRING,
-        times: 1000,
-    };
+    let ring = Repeat::new(SPRING, 1000);
     let mut draft = Draft::new(rt.alloc())?;
     draft.node(3)?;
     place(&mut draft, &ring, 0, 0)?;
@@ -113,11 +109,12 @@ fn ring_of_a_thousand(rt: HostRuntime) -> Result<(), Fail> {
         }
     );
     // A node more is beyond the limit, and so is a second ring.
-    let full = Refusal::Limit {
-        table: Table::Nodes,
-    };
-    assert_eq!(rt; draft.node(3), Err(full));
-    assert_eq!(rt; place(&mut draft, &ring, 0, 0), Err(full));
+    let table = Table::Nodes;
+    assert_eq!(rt; draft.node(3), Err(DraftRefusal::Limit { table }));
+    assert_eq!(rt;
+        place(&mut draft, &ring, 0, 0),
+        Err(PlaceRefusal::Limit { table })
+    );
     assert_eq!(rt; draft.counts(), counts);
     Ok(())
 }
@@ -126,30 +123,30 @@ fn same(one: &Sheet, other: &Sheet) -> bool {
     one.nodes() == other.nodes()
         && one.variables() == other.variables()
         && one.rows() == other.rows()
-        && one.laws().lengths == other.laws().lengths
-        && one.laws().terms == other.laws().terms
+        && one.laws().len() == other.laws().len()
+        && (0..one.laws().len()).all(|k| one.laws().law(k) == other.laws().law(k))
 }
 
 // Fills a draft up to its last node: the chain has four, and a ring of 997 parts has 996 inner nodes.
-fn fill(draft: &mut Draft) -> Result<Counts, Refusal> {
+fn fill(draft: &mut Draft) -> Result<Counts, Fail> {
     drawn(draft)?;
-    let ring = Repeat {
-        part: SPRING,
-        times: 997,
-    };
-    place(draft, &ring, 0, 0)
+    let ring = Repeat::new(SPRING, 997);
+    Ok(place(draft, &ring, 0, 0)?)
 }
 
 // A place that is refused leaves a full draft, and what is drawn after it, as it is.
 #[test]
 fn refused_place_leaves_the_draft(rt: HostRuntime) -> Result<(), Fail> {
-    let full = Refusal::Limit {
+    let full = PlaceRefusal::Limit {
         table: Table::Nodes,
     };
     let mut draft = Draft::new(rt.alloc())?;
     fill(&mut draft)?;
-    assert_eq!(rt; place(&mut draft, &CHAIN, 1, 0), Err(full));
-    assert_eq!(rt; place(&mut draft, &NO_CHAIN, 0, 1), Err(Refusal::Void));
+    assert_eq!(rt; place(&mut draft, &chain(), 1, 0), Err(full));
+    assert_eq!(rt;
+        place(&mut draft, &no_chain(), 0, 1),
+        Err(PlaceRefusal::Void)
+    );
     place(&mut draft, &SPRING, 1, 0)?;
     let mut plain = Draft::new(rt.alloc())?;
     fill(&mut plain)?;

@@ -1,10 +1,10 @@
--- What the assemblies of the trials mean.
+-- What the assemblies that layers are tested on mean.
 use Rattle.std.specs.Prelude.{[], ◌∷◌, pos}
 use Rattle.netlist.specs.declared.rows.Row.TheVariants.{Branch, Earth}
 use Rattle.assembly.specs.Plans.{PlanTerm}
 use Rattle.assembly.specs.Meaning.{Meaning, void, plan}
-use Rattle.layers_trials.specs.declared.trial_parts.Coupler.{Coupler}
-use Rattle.layers_trials.specs.declared.trial_parts.Nothing.{Nothing}
+use Rattle.assembly_tests.specs.declared.example_parts.Coupler.{Coupler}
+use Rattle.assembly_tests.specs.declared.example_parts.Nothing.{Nothing}
 
 abbrev only_term : PlanTerm
 only_term = record { coefficient = pos 5; order = 1; variable = 1 }

@@ -1,7 +1,0 @@
-//! Trials of placing assemblies on drafts.
-#![tactic(auto)]
-
-#[cfg(test)]
-mod faults;
-#[cfg(test)]
-mod placing;
