@@ -6,3 +6,4 @@ pub mod Counting
 pub mod Finding
 pub mod Placing
 pub mod Printing
+pub mod Fitting

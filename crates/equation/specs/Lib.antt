@@ -1,3 +1,4 @@
+pub mod Refusals
 pub mod Equations
 pub mod Listing
 pub mod Printing

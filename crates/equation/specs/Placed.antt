@@ -32,6 +32,10 @@ pub record Earthed (b : Netlist) (flow node : ℕ) : Type 0 where
 abbrev pub Absent : Netlist → ℕ → Type 0
 Absent b v = (n : ℕ) → n < length b.domains → naming v (node_equation b n) ≡ []
 
+-- a variable that is no row's flow
+abbrev pub NoFlow : Netlist → ℕ → Type 0
+NoFlow b v = (k : ℕ) (d : Row ℕ) → k < length b.rows → flow_of (slice_index_or b.rows k d) ≢ v
+
 -- a branch with both ends on one node stands nowhere
 abbrev pub PlacedRow : Netlist → Row ℕ → Type 0
 PlacedRow b (Branch flow across first second) =
@@ -44,4 +48,4 @@ pub record Placed (b : Netlist) : Type 0 where
   -- the places of each row's flow
   pub rows : (k : ℕ) (d : Row ℕ) → k < length b.rows → PlacedRow b (slice_index_or b.rows k d)
   -- what is no row's flow stands in no node's equation
-  pub others : (v : ℕ) → ((k : ℕ) (d : Row ℕ) → k < length b.rows → flow_of (slice_index_or b.rows k d) ≢ v) → Absent b v
+  pub others : (v : ℕ) → NoFlow b v → Absent b v

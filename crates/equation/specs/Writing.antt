@@ -6,13 +6,33 @@ use Rattle.netlist.specs.declared.spans.Span.{Span}
 use Rattle.netlist.specs.declared.terms.Term.{Term}
 use Rattle.netlist.specs.Buffers.{written}
 use Rattle.equation.specs.declared.rows.RowEquation.{RowEquation}
+use Rattle.equation.specs.declared.writing.Lister.{Lister}
 
 -- the equation e is written from place at on, and where it stands at place k; the next ones go to at' and k'
-pub record Put (old : List Term) (olds : List Span) (at k : ℕ) (e : List Term) (now : List Term) (nows : List Span) (at' k' : ℕ) : Type 0 where
+pub record Put (old : List Term) (olds : List Span) (at k : ℕ) (e now : List Term) (nows : List Span) (at' k' : ℕ)
+    : Type 0 where
   pub terms : now ≡ written old at e
   pub spans : nows ≡ slice_set olds k (record { offset = at; length = length e })
   pub next_term : at' ≡ at + length e
   pub next_span : k' ≡ k + 1
+
+abbrev pub span_at : ℕ → ℕ → Span
+span_at at count = record { offset = at; length = count }
+
+-- A lister has put an equation behind the others, or has only noted where its terms stand. It keeps its two buffers.
+pub record Lists (before : Lister) (e : List Term) (after : Lister) : Type 0 where
+  pub same_terms : after.terms.ghost_name ≡ before.terms.ghost_name
+  pub same_spans : after.spans.ghost_name ≡ before.spans.ghost_name
+  pub put : Put before.terms.now before.spans.now before.written before.listed e
+      after.terms.now after.spans.now after.written after.listed
+
+pub record Closes (before : Lister) (count : ℕ) (after : Lister) : Type 0 where
+  pub same_terms : after.terms.ghost_name ≡ before.terms.ghost_name
+  pub same_spans : after.spans.ghost_name ≡ before.spans.ghost_name
+  pub terms : after.terms.now ≡ before.terms.now
+  pub spans : after.spans.now ≡ slice_set before.spans.now before.listed (span_at before.written count)
+  pub written : after.written ≡ before.written + count
+  pub listed : after.listed ≡ before.listed + 1
 
 -- the numbers of the row's potentials fit 64 bits
 abbrev pub Numbered : ℕ → Row ℕ → Type 0

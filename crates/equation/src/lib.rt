@@ -1,8 +1,11 @@
-//! The equations that an issued sheet stands for: listed into lent buffers, and printed line by line.
+//! The equations that a sheet stands for: listed into lent buffers, and printed line by line.
 #![tactic(auto)]
 
 pub mod lines;
 pub mod listing;
 mod nodes;
+pub mod refusals;
 mod rows;
 mod writing;
+
+pub use refusals::EquationRefusal;

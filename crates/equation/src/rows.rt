@@ -1,5 +1,6 @@
 //! The equation of a row.
 ghost use Rattle.std.specs.Prelude.{◌≡◌, ◌≤◌, length, sum_by};
+ghost use Rattle.netlist.specs.Limits.{most_rows};
 ghost use Rattle.equation.specs.Equations.{row_equation};
 ghost use Rattle.equation.specs.Writing.{Numbered, row_size, terms_of};
 
@@ -61,7 +62,7 @@ fn row_size(row: Row) -> usize
 
 // How many terms these rows bring.
 pub(crate) fn row_sizes(rows: &[Row]) -> usize
-    requires { length rows.now ≤ 1500 }
+    requires { length rows.now ≤ most_rows }
     ensures { result ≡ sum_by row_size rows.now }
 {
     rows.iter().map(|row| row_size(*row)).sum()

@@ -4,7 +4,7 @@ ghost use Rattle.netlist.specs.Buffers.{over};
 ghost use Rattle.netlist.specs.Pieces.{flat};
 ghost use Rattle.equation.specs.Equations.{node_sum, equations_of};
 ghost use Rattle.equation.specs.Listing.{spans_from, listing_of};
-ghost use Rattle.equation.specs.Writing.{Put};
+ghost use Rattle.equation.specs.Writing.{Closes, Lists};
 
 use crate::nodes::put_node;
 use crate::rows::RowEquation;
@@ -29,12 +29,7 @@ impl Lister<'_> {
     fn close(&mut self, count: usize)
         requires terms_room { self.old.written + count ≤ length self.old.terms.now }
         requires spans_room { self.old.listed < length self.old.spans.now }
-        ensures same_terms { self.new.terms.ghost_name ≡ self.old.terms.ghost_name }
-        ensures same_spans { self.new.spans.ghost_name ≡ self.old.spans.ghost_name }
-        ensures terms { self.new.terms.now ≡ self.old.terms.now }
-        ensures spans { self.new.spans.now ≡ slice_set self.old.spans.now self.old.listed (record { offset = self.old.written; length = count }) }
-        ensures written { self.new.written ≡ self.old.written + count }
-        ensures listed { self.new.listed ≡ self.old.listed + 1 }
+        ensures { Closes self.old count self.new }
     {
         self.spans[self.listed] = Span {
             offset: self.written,
@@ -48,9 +43,7 @@ impl Lister<'_> {
     fn list(&mut self, equation: &[Term])
         requires terms_room { self.old.written + length equation.now ≤ length self.old.terms.now }
         requires spans_room { self.old.listed < length self.old.spans.now }
-        ensures same_terms { self.new.terms.ghost_name ≡ self.old.terms.ghost_name }
-        ensures same_spans { self.new.spans.ghost_name ≡ self.old.spans.ghost_name }
-        ensures put { Put self.old.terms.now self.old.spans.now self.old.written self.old.listed equation.now self.new.terms.now self.new.spans.now self.new.written self.new.listed }
+        ensures { Lists self.old equation.now self.new }
     {
         self.terms[self.written..self.written + equation.len()].copy_from_slice(equation);
         self.close(equation.len());
@@ -60,9 +53,7 @@ impl Lister<'_> {
     fn list_node(&mut self, rows: &[Row], node: usize)
         requires terms_room { self.old.written + length (node_sum rows.now node) ≤ length self.old.terms.now }
         requires spans_room { self.old.listed < length self.old.spans.now }
-        ensures same_terms { self.new.terms.ghost_name ≡ self.old.terms.ghost_name }
-        ensures same_spans { self.new.spans.ghost_name ≡ self.old.spans.ghost_name }
-        ensures put { Put self.old.terms.now self.old.spans.now self.old.written self.old.listed (node_sum rows.now node) self.new.terms.now self.new.spans.now self.new.written self.new.listed }
+        ensures { Lists self.old (node_sum rows.now node) self.new }
     {
         let count = put_node(rows, node, &mut self.terms[self.written..]);
         self.close(count);

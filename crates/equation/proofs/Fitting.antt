@@ -1,4 +1,4 @@
--- Each line of a sheet has room in a buffer of 16,384 bytes.
+-- Each line of a sheet has room in a buffer of `line_bytes` bytes.
 use Rattle.std.proofs.Common.{◌≡◌, ℕ, zero, suc, ◌+◌, ◌^◌, ◌-◌, ◌<◌, ◌≤◌, Bool, true, false, cond, ◌&&◌, ◌==◌, ◌⊎◌, inl, inr, ⊎_elim, nat_lt, slice_index, List, [], ◌∷◌, ◌++◌, length, get_or, None, Some, refl, sym, ap, subst, arith, eqb, unsigned_abs}
 use Rattle.std.specs.Option.{option_to_list}
 use Rattle.std.proofs.lemmas.Fmt.{length-decimal-le}
@@ -7,6 +7,7 @@ use Rattle.std.proofs.lemmas.Bool.Decides.{nat_tests}
 use Rattle.netlist.specs.declared.rows.Row.{Row}
 use Rattle.netlist.specs.declared.rows.Row.TheVariants.{Branch, Earth}
 use Rattle.netlist.specs.declared.terms.Term.{Term}
+use Rattle.netlist.specs.Limits.{most_nodes, most_variables, most_rows, most_terms_of_law, largest_coefficient}
 use Rattle.netlist.specs.Netlist.{Netlist}
 use Rattle.netlist.specs.Rows.{bit, uses, flow_of, across_of}
 use Rattle.netlist.specs.Sound.{names, is_sized, is_term_count, joins, Lawful, Sound}
@@ -15,7 +16,7 @@ use Rattle.spelling.proofs.Lengths.{Small, AllSmall, line_short}
 use Rattle.netlist.proofs.Every.{every_at}
 use Rattle.spelling.specs.Lines.{line_text}
 use Rattle.equation.specs.Equations.{plus, minus, term_at, node_sum, row_equation, equations_of}
-use Rattle.equation.specs.Printing.{line_of}
+use Rattle.equation.specs.Printing.{line_bytes, line_of}
 use Rattle.equation.proofs.Counting.{length_listed}
 use Rattle.equation.proofs.Finding.{law_at, node_at, row_at, few_terms}
 
@@ -28,11 +29,11 @@ minus_small v h = record { digits = length-decimal-le 1 1 (omega arith) (omega a
 named_below : (n : ℕ) (t : Term) → names n t ≡ true → t.variable < n
 named_below n t h = ltb-true t.variable n h
 
-sized_below : (t : Term) → is_sized t ≡ true → unsigned_abs t.coefficient ≤ 1000000
+sized_below : (t : Term) → is_sized t ≡ true → unsigned_abs t.coefficient ≤ largest_coefficient
 sized_below t h = grind (arith, nat_tests)
 
 -- the terms of a law
-law_small : (n : ℕ) (ts : List Term) → n ≤ 4000 → list_all (names n) ts ≡ true → list_all is_sized ts ≡ true → AllSmall 7 ts
+law_small : (n : ℕ) (ts : List Term) → n ≤ most_variables → list_all (names n) ts ≡ true → list_all is_sized ts ≡ true → AllSmall 7 ts
 law_small n [] f named sized = tt
 law_small n (t ∷ ts) f named sized =
     let inside = and_parts (names n t) (list_all (names n) ts) named in
@@ -74,14 +75,14 @@ across_drawn v row rows h =
 rest_drawn : (v : ℕ) (row : Row ℕ) (rows : List (Row ℕ)) → ((w : ℕ) → v ≤ w → uses (row ∷ rows) w ≡ 0) → (w : ℕ) → v ≤ w → uses rows w ≡ 0
 rest_drawn v row rows h w l = omega (arith, h w l)
 
-sum_small : (v n : ℕ) (rows : List (Row ℕ)) → v ≤ 4000 → ((w : ℕ) → v ≤ w → uses rows w ≡ 0) → AllSmall 1 (node_sum rows n)
+sum_small : (v n : ℕ) (rows : List (Row ℕ)) → v ≤ most_variables → ((w : ℕ) → v ≤ w → uses rows w ≡ 0) → AllSmall 1 (node_sum rows n)
 sum_small v n [] f h = tt
 sum_small v n (row ∷ rows) f h =
     let low = flow_drawn v row rows h in
     small_append 1 (option_to_list (term_at n row)) (node_sum rows n) (term_small n row (omega arith)) (sum_small v n rows f (rest_drawn v row rows h))
 
 -- the equation of a row
-row_small : (v : ℕ) (domains : List ℕ) (row : Row ℕ) → v ≤ 4000 → length domains ≤ 1000 → across_of row < v → joins domains row ≡ true → AllSmall 1 (row_equation v row)
+row_small : (v : ℕ) (domains : List ℕ) (row : Row ℕ) → v ≤ most_variables → length domains ≤ most_nodes → across_of row < v → joins domains row ≡ true → AllSmall 1 (row_equation v row)
 row_small v domains (Branch flow across first second) f g low j =
     let one = and_parts (nat_lt first (length domains)) (nat_lt second (length domains) && slice_index domains first == slice_index domains second) j in
     let two = and_parts (nat_lt second (length domains)) (slice_index domains first == slice_index domains second) one.1 in
@@ -101,10 +102,10 @@ across_below v (row ∷ rows) h (suc i) d l = across_below v rows (rest_drawn v 
 order : (k n : ℕ) → (k < n) ⊎ (n ≤ k)
 order k n = ⊎_elim (λ e. inr (omega arith)) (⊎_elim inl (λ h. inr (omega arith))) (cases_order k n)
 
-few_terms_of : (n : ℕ) → is_term_count n ≡ true → n ≤ 8
+few_terms_of : (n : ℕ) → is_term_count n ≡ true → n ≤ most_terms_of_law
 few_terms_of n h = grind (arith, nat_tests)
 
-three : (v : ℕ) (row : Row ℕ) → length (row_equation v row) ≤ 1500
+three : (v : ℕ) (row : Row ℕ) → length (row_equation v row) ≤ most_rows
 three v (Branch flow across first second) = omega arith
 three v (Earth flow across node) = omega arith
 
@@ -113,14 +114,14 @@ abbrev none : Row ℕ
 none = Earth 0 0 0
 
 abbrev Fits : ℕ → List Term → Type 0
-Fits v e = length (line_text v e) ≤ 16384
+Fits v e = length (line_text v e) ≤ line_bytes
 
-short_fits : (v : ℕ) (e : List Term) → AllSmall 1 e → length e ≤ 1500 → Fits v e
+short_fits : (v : ℕ) (e : List Term) → AllSmall 1 e → length e ≤ most_rows → Fits v e
 short_fits v e s h = omega (arith, line_short 1 v e s)
 
-law_fits : (v : ℕ) (e : List Term) → v ≤ 4000 → Lawful v e → Fits v e
+law_fits : (v : ℕ) (e : List Term) → v ≤ most_variables → Lawful v e → Fits v e
 law_fits v e f s =
-    let few : length e ≤ 8 = few_terms_of (length e) s.count in
+    let few : length e ≤ most_terms_of_law = few_terms_of (length e) s.count in
     omega (arith, line_short 7 v e (law_small v e f s.named s.sized))
 
 module _ (b : Netlist) (s : Sound b) (k : ℕ) where
@@ -134,7 +135,7 @@ module _ (b : Netlist) (s : Sound b) (k : ℕ) where
       let place : length b.laws + n ≡ k = omega arith in
       let is = node_at b.laws b.rows (length b.domains) b.variables n (omega arith) in
       let sum = node_sum b.rows n in
-      let count : length sum ≤ 1500 = omega (arith, few_terms b.rows n, s.within.rows) in
+      let count : length sum ≤ most_rows = omega (arith, few_terms b.rows n, s.within.rows) in
       let fits : Fits b.variables sum = short_fits b.variables sum (sum_small b.variables n b.rows s.within.variables s.drawn) count in
       subst (λ (j : ℕ). Fits b.variables (get_or (equations_of b) j [])) place (subst (Fits b.variables) (sym is) fits)
 
@@ -150,7 +151,7 @@ module _ (b : Netlist) (s : Sound b) (k : ℕ) where
       let fits : Fits b.variables (row_equation b.variables row) = short_fits b.variables (row_equation b.variables row) small (three b.variables row) in
       subst (λ (j : ℕ). Fits b.variables (get_or (equations_of b) j [])) place (subst (Fits b.variables) (sym is) fits)
 
-  pub line_fits : k < length (equations_of b) → length (line_of b k) ≤ 16384
+  pub line_fits : k < length (equations_of b) → length (line_of b k) ≤ line_bytes
   line_fits h =
       let count = length_listed b.laws b.rows (length b.domains) b.variables in
       ⊎_elim at_law (λ low. ⊎_elim (at_node low) (λ more. at_row more (omega arith)) (order k (length b.laws + length b.domains))) (order k (length b.laws))
