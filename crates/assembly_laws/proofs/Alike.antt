@@ -9,6 +9,7 @@ use Rattle.netlist.specs.declared.rows.Row.{Row}
 use Rattle.netlist.specs.declared.rows.Row.TheVariants.{Branch, Earth}
 use Rattle.netlist.specs.declared.terms.Term.{Term}
 use Rattle.likeness.specs.Alike.{Alike, nodes_in, variables_in}
+use Rattle.likeness.proofs.Pairing.{same_laws}
 use Rattle.netlist.specs.Renaming.{renamed_row, renamed_law}
 use Rattle.netlist.specs.Netlist.{Netlist}
 use Rattle.netlist.specs.Sound.{joins}
@@ -29,7 +30,7 @@ same_alike to back b c s = record {
   nodes = all_of (λ n. back (to n) ≡ n) s.back_to (nodes_in b);
   variables = all_of (λ v. v ≡ v) (λ v. refl) (variables_in b);
   rows = subst (IsPermutation (map (renamed_row (nodes_only to)) b.rows)) (sym s.rows) (IsPermutation-refl (map (renamed_row (nodes_only to)) b.rows));
-  laws = subst (IsPermutation (map (renamed_law (nodes_only to)) b.laws)) (laws_kept to b.laws ∙ sym s.laws) (IsPermutation-refl (map (renamed_law (nodes_only to)) b.laws));
+  laws = same_laws _ c.laws (subst (IsPermutation (map (renamed_law (nodes_only to)) b.laws)) (laws_kept to b.laws ∙ sym s.laws) (IsPermutation-refl (map (renamed_law (nodes_only to)) b.laws)));
 }
 
 -- a renaming that keeps the nodes that are drawn keeps the rows among them

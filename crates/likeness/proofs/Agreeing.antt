@@ -3,7 +3,6 @@ use Rattle.std.proofs.Common.{ℕ, ◌<◌, Bool, List, [], length, get_or, map,
 use Rattle.std.specs.List.{AllByRecursion}
 use Rattle.quantity.specs.Group.{Group}
 use Rattle.netlist.specs.declared.rows.Row.{Row}
-use Rattle.netlist.specs.declared.terms.Term.{Term}
 use Rattle.netlist.specs.Netlist.{Netlist}
 use Rattle.netlist.specs.Rows.{across_of}
 use Rattle.likeness.specs.Alike.{nodes_of, nodes_in, Alike}
@@ -11,14 +10,15 @@ use Rattle.netlist.specs.Renaming.{renamed_row, renamed_law}
 use Rattle.network.specs.Readings.{Readings}
 use Rattle.network.specs.ReadingsAgree.{ReadingsAgree}
 use Rattle.network.specs.Flows.{SetsKeep}
-use Rattle.network.specs.Laws.{law_sum, LawsHold}
+use Rattle.network.specs.Laws.{LawsHold}
 use Rattle.network.specs.Walks.{WalksClose, read, no_row, row_at, tail_of, head_of, network_of}
 use Rattle.likeness.specs.Agreeing.{ListedAlike, ReadAlike, PlantsAgree, PartsAgree}
 use Rattle.likeness.proofs.Listing.{all_at, all_weaker, all_both, all_of_flat, place_of}
 use Rattle.likeness.proofs.Renaming.{of_row, of_law, vertex, tail_renamed, head_renamed, across_renamed}
 use Rattle.likeness.proofs.Occurring.{by_rows, by_laws}
+use Rattle.likeness.proofs.Pairing.{law_place}
 use Rattle.likeness.proofs.Turning.{alike_back, read_back}
-use Rattle.likeness.proofs.Summing.{Kept, law_sum_renamed, out_renamed, flow_renamed, flow_reordered}
+use Rattle.likeness.proofs.Summing.{Kept, law_sum_renamed, law_reordered, out_renamed, flow_renamed, flow_reordered}
 use Rattle.likeness.proofs.Carrying.{Carried, closing_carried}
 
 -- Of two netlists that are alike, what holds of the second holds of the first.
@@ -55,9 +55,9 @@ module _ {G : Type 0} (𝓖 : Group G) (b c : Netlist) (s : Alike b c) where
   module _ (r r' : Readings G) (h : ReadAlike 𝓖 b s.there r r') where
     laws_back : LawsHold 𝓖 c.laws r' (length c.laws) → LawsHold 𝓖 b.laws r (length b.laws)
     laws_back hold k l =
-        let place = place_of (renamed_law s.there) b.laws c.laws s.laws k [] l in
+        let place = law_place (renamed_law s.there) b.laws c.laws s.laws k l in
         sym (law_sum_renamed 𝓖 s.there r r' (get_or b.laws k []) (law_kept r.values r'.values h.values k l) (law_kept r.rates r'.rates h.rates k l))
-        ∙ ap (λ (law : List Term). law_sum 𝓖 law r') (sym place.2)
+        ∙ sym (law_reordered 𝓖 r' (renamed_law s.there (get_or b.laws k [])) (get_or c.laws place.0 []) place.2)
         ∙ hold place.0 place.1
 
     agree_back : ReadingsAgree 𝓖 c r' → ReadingsAgree 𝓖 b r

@@ -5,6 +5,7 @@ use Rattle.netlist.specs.Netlist.{Netlist}
 use Rattle.likeness.specs.Alike.{nodes_of, nodes_in, variables_in, Alike}
 use Rattle.netlist.specs.Renaming.{renamed_row, renamed_law}
 use Rattle.likeness.proofs.Listing.{all_append, all_of_append, all_of_flat, names_forth, names_back}
+use Rattle.likeness.proofs.Pairing.{laws_forth, laws_back}
 use Rattle.likeness.proofs.Renaming.{of_row, of_law, nodes_renamed, row_renamed, law_renamed}
 
 -- what holds of each variable that occurs, by rows and by laws
@@ -28,11 +29,11 @@ module _ (b c : Netlist) (s : Alike b c) (P : ℕ → Type 0) where
       let both = all_of_append (λ v. P (s.there.variable v)) (flat_map of_row b.rows) (flat_map of_law b.laws) h in
       all_append P (flat_map of_row c.rows) (flat_map of_law c.laws)
       (names_forth (renamed_row s.there) b.rows c.rows s.rows of_row s.there.variable (row_renamed s.there) P both.0)
-      (names_forth (renamed_law s.there) b.laws c.laws s.laws of_law s.there.variable (law_renamed s.there) P both.1)
+      (laws_forth (renamed_law s.there) b.laws c.laws s.laws s.there.variable (law_renamed s.there) P both.1)
 
   pub variables_back : AllByRecursion P (variables_in c) → AllByRecursion (λ v. P (s.there.variable v)) (variables_in b)
   variables_back h =
       let both = all_of_append P (flat_map of_row c.rows) (flat_map of_law c.laws) h in
       all_append (λ v. P (s.there.variable v)) (flat_map of_row b.rows) (flat_map of_law b.laws)
       (names_back (renamed_row s.there) b.rows c.rows s.rows of_row s.there.variable (row_renamed s.there) P both.0)
-      (names_back (renamed_law s.there) b.laws c.laws s.laws of_law s.there.variable (law_renamed s.there) P both.1)
+      (laws_back (renamed_law s.there) b.laws c.laws s.laws s.there.variable (law_renamed s.there) P both.1)

@@ -1,5 +1,7 @@
 -- Rows and laws under other numbers.
 use Rattle.std.proofs.Common.{◌≡◌, ℕ, zero, suc, ◌+◌, List, [], ◌∷◌, map, refl, sym, ap, ap₂, add-one}
+use Rattle.std.specs.List.Sorted.{IsPermutation}
+use Rattle.std.proofs.lemmas.List.Sorted.{IsPermutation-map}
 use Rattle.std.proofs.lemmas.Simd.{map-map}
 use Rattle.netlist.specs.declared.rows.Row.{Row}
 use Rattle.netlist.specs.declared.rows.Row.TheVariants.{Branch, Earth}
@@ -34,6 +36,10 @@ module _ (to : Renaming) where
   pub law_renamed : (law : List Term) → of_law (renamed_law to law) ≡ map to.variable (of_law law)
   law_renamed [] = refl
   law_renamed (t ∷ law) = ap (λ vs. to.variable t.variable ∷ vs) (law_renamed law)
+
+  -- a law under other numbers keeps its terms
+  pub law_keeps : (law law' : List Term) → IsPermutation law law' → IsPermutation (renamed_law to law) (renamed_law to law')
+  law_keeps law law' s = IsPermutation-map _ law law' s
 
   pub across_renamed : (row : Row ℕ) → across_of (renamed_row to row) ≡ to.variable (across_of row)
   across_renamed (Branch flow across first second) = refl

@@ -33,6 +33,19 @@ module _ {G : Type 0} (𝓖 : Group G) (to : Renaming) (r r' : Readings G) where
   law_sum_renamed [] p q = refl
   law_sum_renamed (t ∷ law) p q = ap₂ 𝓖.sum (ap (𝓖.multiple t.coefficient) (term_renamed t.order t.variable p.0 q.0)) (law_sum_renamed law p.1 q.1)
 
+module _ {G : Type 0} (𝓖 : Group G) (r : Readings G) where
+  -- what a term adds
+  abbrev of_term : Term → G
+  of_term t = 𝓖.multiple t.coefficient (read 𝓖 (of_order t.order r) t.variable)
+
+  law_is_total : (law : List Term) → law_sum 𝓖 law r ≡ total 𝓖 (map of_term law)
+  law_is_total [] = refl
+  law_is_total (t ∷ law) = ap (𝓖.sum (of_term t)) (law_is_total law)
+
+  pub law_reordered : (law law' : List Term) → IsPermutation law law' → law_sum 𝓖 law' r ≡ law_sum 𝓖 law r
+  law_reordered law law' s =
+      law_is_total law' ∙ total_reordered 𝓖 _ _ (IsPermutation-map of_term law law' s) ∙ sym (law_is_total law)
+
 module _ {G : Type 0} (𝓖 : Group G) where
   -- what a row brings out of a set
   abbrev pub out_of : List G → (ℕ → Bool) → Row ℕ → G

@@ -11,7 +11,8 @@ use Rattle.network.specs.Walks.{read}
 use Rattle.likeness.specs.Agreeing.{ListedAlike, ReadItself, ReadBack, ReadOnward}
 use Rattle.likeness.specs.Turning.{unchanged, onward, AlikeItself, AlikeBack, AlikeOnward}
 use Rattle.likeness.proofs.Listing.{all_from, all_weaker, all_both, all_of_flat, map_same, order_back, order_onward}
-use Rattle.likeness.proofs.Renaming.{row_unchanged, row_undone, row_onward, law_undone, law_onward}
+use Rattle.likeness.proofs.Pairing.{same_laws, same_back, same_further}
+use Rattle.likeness.proofs.Renaming.{row_unchanged, row_undone, row_onward, law_undone, law_onward, law_keeps}
 use Rattle.likeness.proofs.Occurring.{by_rows, by_laws, nodes_forth, nodes_back, variables_forth, variables_back}
 
 pub alike_itself : AlikeItself
@@ -22,7 +23,7 @@ alike_itself b = (
     nodes = all_from _ (λ n. refl) (nodes_in b);
     variables = all_from _ (λ v. refl) (variables_in b);
     rows = subst (λ l. IsPermutation l b.rows) (sym (map_same (renamed_row unchanged) b.rows (all_from _ row_unchanged b.rows))) (IsPermutation-refl b.rows);
-    laws = subst (λ l. IsPermutation l b.laws) (sym (map_same (renamed_law unchanged) b.laws (all_from _ map-id b.laws))) (IsPermutation-refl b.laws);
+    laws = same_laws _ b.laws (subst (λ l. IsPermutation l b.laws) (sym (map_same (renamed_law unchanged) b.laws (all_from _ map-id b.laws))) (IsPermutation-refl b.laws));
   },
   refl,
   refl,
@@ -36,7 +37,7 @@ alike_back b c s = (
     nodes = nodes_forth b c s (λ n. s.there.node (s.back.node n) ≡ n) (all_weaker _ _ (λ n e. ap s.there.node e) (nodes_in b) s.nodes);
     variables = variables_forth b c s (λ v. s.there.variable (s.back.variable v) ≡ v) (all_weaker _ _ (λ v e. ap s.there.variable e) (variables_in b) s.variables);
     rows = order_back (renamed_row s.there) b.rows c.rows s.rows (renamed_row s.back) (all_both _ _ _ (row_undone s.there s.back) b.rows (all_of_flat _ nodes_of b.rows s.nodes) (by_rows b _ s.variables));
-    laws = order_back (renamed_law s.there) b.laws c.laws s.laws (renamed_law s.back) (all_weaker _ _ (law_undone s.there s.back) b.laws (by_laws b _ s.variables));
+    laws = same_back (renamed_law s.back) (law_keeps s.back) (renamed_law s.there) b.laws c.laws s.laws (all_weaker _ _ (law_undone s.there s.back) b.laws (by_laws b _ s.variables));
   },
   refl,
   refl,
@@ -50,7 +51,7 @@ alike_onward b c d s t = (
     nodes = all_both _ _ _ (λ n e f. ap s.back.node f ∙ e) (nodes_in b) s.nodes (nodes_back b c s (λ n. t.back.node (t.there.node n) ≡ n) t.nodes);
     variables = all_both _ _ _ (λ v e f. ap s.back.variable f ∙ e) (variables_in b) s.variables (variables_back b c s (λ v. t.back.variable (t.there.variable v) ≡ v) t.variables);
     rows = order_onward (renamed_row s.there) b.rows c.rows s.rows (renamed_row t.there) _ (row_onward s.there t.there) d.rows t.rows;
-    laws = order_onward (renamed_law s.there) b.laws c.laws s.laws (renamed_law t.there) _ (law_onward s.there t.there) d.laws t.laws;
+    laws = same_further (renamed_law t.there) (law_keeps t.there) (renamed_law s.there) b.laws c.laws s.laws _ (law_onward s.there t.there) d.laws t.laws;
   },
   refl,
   refl,
