@@ -2,3 +2,4 @@ pub mod Laws
 pub mod Small
 pub mod Ends
 pub mod Halving
+pub mod Asked

@@ -160,10 +160,11 @@ module _ (n : ℕ) (a : Plan) (p : Bounded a) (i : ℕ) (l : 2 ≤ i) where
   inner_joint past within =
       let all = length_turns (λ i. a.inner) (length a.inner) (λ i. refl) n in
       let j = i - 2 - length (in_turn n (λ i. a.inner)) in
-      let at : IsSpot 1 (n - 1) j (record { copy = j; place = 0 }) =
+      let s : Spot = record { copy = j; place = 0; numbers = copy_place (size_in a) n 0 } in
+      let at : IsSpot 1 (n - 1) j s =
       record { copied = omega (arith, all, length_inner n a p); inside = omega arith; is = omega arith } in
       by_ends (λ xs. slice_get (xs ++ a.inner) 1 ≡ slice_get (drop 1 xs) 0) (λ x y. refl) a.ends p.two_ends
-      ∙ sym (inner_at ∙ nth_append_right (in_turn n (λ i. a.inner)) (in_turn (n - 1) (λ i. second_end a)) (i - 2) (omega (arith, all)) ∙ nth_spot (λ i. second_end a) 1 (λ i. one_second a p) (n - 1) j (record { copy = j; place = 0 }) at)
+      ∙ sym (inner_at ∙ nth_append_right (in_turn n (λ i. a.inner)) (in_turn (n - 1) (λ i. second_end a)) (i - 2) (omega (arith, all)) ∙ nth_spot (λ i. second_end a) 1 (λ i. one_second a p) (n - 1) j s at)
 
   inner_past : length (in_copies n a).inner ≤ i - 2 → None ≡ slice_get (a.ends ++ (in_copies n a).inner) i
   inner_past u = sym (inner_at ∙ slice_get_past (in_copies n a).inner (i - 2) u)

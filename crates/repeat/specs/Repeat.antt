@@ -93,3 +93,8 @@ pub record IsSpot (len n k : ℕ) (s : Spot) : Type 0 where
   pub copied : s.copy < n
   pub inside : s.place < len
   pub is : s.copy * len + s.place ≡ k
+
+-- The same of the things that copies have, of which each copy has so many, with that copy's numbers.
+pub record IsSpotOf (c : Copies) (len k : ℕ) (s : Spot) : Type 0 where
+  pub at : IsSpot len c.times k s
+  pub numbers_are : s.numbers ≡ copy_place c.part c.times s.copy

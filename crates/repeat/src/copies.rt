@@ -19,16 +19,17 @@ pub struct Copies {
     ghost few_variables: { times * part.variables ≤ most_of_plan },
 }
 
-/// A place in one of the copies.
+/// A place in one of the copies, and where that copy's things go.
 #[derive(Clone, Copy)]
 pub struct Spot {
     pub copy: usize,
     pub place: usize,
+    pub numbers: Renumbering,
 }
 
 impl Copies {
     ghost use Rattle.std.specs.Prelude.{◌≡◌, ◌*◌, ◌<◌, ◌≤◌, MatchOption};
-    ghost use Rattle.repeat.specs.Repeat.{SmallCopies, stop_at, copy_place, IsSpot};
+    ghost use Rattle.repeat.specs.Repeat.{SmallCopies, stop_at, copy_place, IsSpotOf};
 
     /// The copies together with the joints between them; `None` where there are none or too many, or the
     /// layer would have too much.
@@ -69,7 +70,7 @@ impl Copies {
     }
 
     // Where the things of copy `i` go.
-    pub(crate) fn place(self, i: usize) -> Renumbering
+    fn place(self, i: usize) -> Renumbering
         requires { i < self.times }
         ensures { result ≡ copy_place self.part self.times i }
     {
@@ -83,14 +84,18 @@ impl Copies {
         }
     }
 
-    // Where place `k` of the copies' things lies, of which each copy has `len`.
-    pub(crate) fn spot(self, len: usize, k: usize) -> Option<Spot>
-        ensures { MatchOption result (self.times * len ≤ k) (IsSpot len self.times k) }
+    /// Where place `k` of the copies' things lies, of which each copy has `len`; `None` past the last.
+    pub fn spot(self, len: usize, k: usize) -> Option<Spot>
+        ensures { MatchOption result (self.times * len ≤ k) (IsSpotOf self len k) }
     {
         let copy = k.checked_div(len)?;
-        (copy < self.times).then_some(Spot {
+        if copy >= self.times {
+            return None;
+        }
+        Some(Spot {
             copy,
             place: k % len,
+            numbers: self.place(copy),
         })
     }
 }

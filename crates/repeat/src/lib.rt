@@ -9,7 +9,7 @@ ghost use Rattle.std.specs.Prelude.{◌≡◌};
 ghost use Rattle.layers.specs.Told.{told};
 ghost use Rattle.repeat.specs.Repeat.{repeated, Tells};
 
-mod copies;
+pub mod copies;
 pub mod sizes;
 
 use assembly::Assembly;
@@ -27,8 +27,8 @@ pub struct Repeat<A: Assembly> {
     ghost known: { Tells times (A.Assembly.meaning part) sizes } by { Prim.hlevel told },
 }
 
-// What a copy and the layer have, or `None` where the layer is void.
-fn copies_of<A: Assembly>(part: &A, times: usize) -> Option<Copies>
+/// What a copy and the layer have, or `None` where the layer is void. Asks for a size and two domains.
+pub fn copies_of<A: Assembly>(part: &A, times: usize) -> Option<Copies>
     ensures { Tells times (A.Assembly.meaning part.now) result }
 {
     let size = part.size()?;
@@ -82,7 +82,7 @@ impl<A: Assembly> Assembly for Repeat<A> {
     fn row(&self, k: usize) -> Option<PlanRow> {
         let copies = self.sizes?;
         let s = copies.spot(copies.part.rows, k)?;
-        copies.place(s.copy).row(self.part.row(s.place))
+        s.numbers.row(self.part.row(s.place))
     }
 
     fn law_len(&self, k: usize) -> Option<usize> {
@@ -94,6 +94,6 @@ impl<A: Assembly> Assembly for Repeat<A> {
     fn term(&self, k: usize, t: usize) -> Option<PlanTerm> {
         let copies = self.sizes?;
         let s = copies.spot(copies.part.laws, k)?;
-        copies.place(s.copy).term(self.part.term(s.place, t))
+        s.numbers.term(self.part.term(s.place, t))
     }
 }

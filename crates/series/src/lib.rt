@@ -8,13 +8,14 @@ ghost use Rattle.std.specs.Prelude.{◌≡◌, MatchOption};
 ghost use Rattle.assembly.specs.Meaning.{void};
 ghost use Rattle.layers.specs.Told.{told};
 ghost use Rattle.layers.specs.Two.{Joins};
-ghost use Rattle.series.specs.Series.{series, in_series, meet, joint, Knows};
+ghost use Rattle.series.specs.Series.{series, in_series, meet, joint, front_place, back_place, Knows};
 
 use assembly::Assembly;
 use assembly::plans::{PlanRow, PlanTerm, Size};
 use layers::domains::same_domain;
 use layers::halves::Halves;
 use layers::pair::Pair;
+use layers::renumbering::Renumbering;
 use netlist::domains::Domain;
 
 /// Two parts, and what they told where the layer was made; `None` where the layer is void.
@@ -26,15 +27,29 @@ pub struct Series<A: Assembly, B: Assembly> {
     ghost known: { Knows (A.Assembly.meaning first) (B.Assembly.meaning second) sizes } by { Prim.hlevel told },
 }
 
-// The joint's number: it is the last inner node.
-fn joint(parts: Halves) -> u16
+/// The joint's number: it is the last inner node.
+pub fn joint(parts: Halves) -> u16
     ensures { result ≡ joint parts.first parts.second }
 {
     (2 + parts.first.inner + parts.second.inner) as u16
 }
 
-// What two parts and their layer have, or `None` where the layer is void.
-fn halves<A: Assembly, B: Assembly>(first: &A, second: &B) -> Option<Halves>
+/// Where the first part's things go.
+pub fn front(parts: Halves) -> Renumbering
+    ensures { result ≡ front_place parts.first parts.second }
+{
+    parts.front(0, joint(parts))
+}
+
+/// Where the second part's things go.
+pub fn back(parts: Halves) -> Renumbering
+    ensures { result ≡ back_place parts.first parts.second }
+{
+    parts.back(joint(parts), 1)
+}
+
+/// What two parts and their layer have, or `None` where the layer is void. Asks for two sizes and two domains.
+pub fn halves<A: Assembly, B: Assembly>(first: &A, second: &B) -> Option<Halves>
     ensures { Knows (A.Assembly.meaning first.now) (B.Assembly.meaning second.now) result }
 {
     let one = first.size()?;
@@ -79,13 +94,12 @@ impl<A: Assembly, B: Assembly> Series<A, B> {
             whole pair.parts pair.front pair.back) }
     {
         let parts = self.sizes?;
-        let joint = joint(parts);
         Some(Pair {
             first: &self.first,
             second: &self.second,
             parts,
-            front: parts.front(0, joint),
-            back: parts.back(joint, 1),
+            front: front(parts),
+            back: back(parts),
         })
     }
 }

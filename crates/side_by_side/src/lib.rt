@@ -7,13 +7,14 @@ ghost use Rattle.std.specs.Prelude.{◌≡◌, MatchOption};
 ghost use Rattle.assembly.specs.Meaning.{void};
 ghost use Rattle.layers.specs.Told.{told};
 ghost use Rattle.layers.specs.Two.{Joins};
-ghost use Rattle.side_by_side.specs.Beside.{beside, in_parallel, meet, Knows};
+ghost use Rattle.side_by_side.specs.Beside.{beside, in_parallel, meet, front_place, back_place, Knows};
 
 use assembly::Assembly;
 use assembly::plans::{PlanRow, PlanTerm, Size};
 use layers::domains::same_domain;
 use layers::halves::Halves;
 use layers::pair::Pair;
+use layers::renumbering::Renumbering;
 use netlist::domains::Domain;
 
 /// Two parts, and what they told where the layer was made; `None` where the layer is void.
@@ -25,6 +26,20 @@ pub struct SideBySide<A: Assembly, B: Assembly> {
     ghost known: { Knows (A.Assembly.meaning one) (B.Assembly.meaning other) sizes } by { Prim.hlevel told },
 }
 
+/// Where the one part's things go.
+pub fn front(parts: Halves) -> Renumbering
+    ensures { result ≡ front_place parts.first parts.second }
+{
+    parts.front(0, 1)
+}
+
+/// Where the other part's things go.
+pub fn back(parts: Halves) -> Renumbering
+    ensures { result ≡ back_place parts.first parts.second }
+{
+    parts.back(0, 1)
+}
+
 // Whether each end is of one domain in both parts.
 fn ends_meet<A: Assembly, B: Assembly>(one: &A, other: &B) -> bool
     ensures { result ≡ meet (A.Assembly.meaning one.now) (B.Assembly.meaning other.now) }
@@ -32,8 +47,8 @@ fn ends_meet<A: Assembly, B: Assembly>(one: &A, other: &B) -> bool
     same_domain(one.domain(0), other.domain(0)) && same_domain(one.domain(1), other.domain(1))
 }
 
-// What two parts and their layer have, or `None` where the layer is void.
-fn halves<A: Assembly, B: Assembly>(one: &A, other: &B) -> Option<Halves>
+/// What two parts and their layer have, or `None` where the layer is void. Asks for two sizes and four domains.
+pub fn halves<A: Assembly, B: Assembly>(one: &A, other: &B) -> Option<Halves>
     ensures { Knows (A.Assembly.meaning one.now) (B.Assembly.meaning other.now) result }
 {
     let first = one.size()?;
@@ -78,8 +93,8 @@ impl<A: Assembly, B: Assembly> SideBySide<A, B> {
             first: &self.one,
             second: &self.other,
             parts,
-            front: parts.front(0, 1),
-            back: parts.back(0, 1),
+            front: front(parts),
+            back: back(parts),
         })
     }
 }

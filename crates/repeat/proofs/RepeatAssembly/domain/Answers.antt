@@ -11,7 +11,7 @@ pub returns-in-Some : goal.returns-in-Some
 returns-in-Some g c =
     let is = known c.args.self.now.times (g.A.Assembly.meaning c.args.self.now.part) c.in_ok-copies.copies c.args.self.now.known (cc) in
     c.domain-in-Some.ensures
-    ∙ domain_copied c.args.self.now.times is c.args.node c.if-node-lt2.false c.in-Some.s c.in-Some.ensures
+    ∙ domain_copied c.args.self.now.times is c.args.node c.if-node-lt2.false c.in-Some.s c.in-Some.ensures.at
 
 pub returns-in-None : goal.returns-in-None
 returns-in-None g c =

@@ -12,4 +12,4 @@ pub returns : goal.returns
 returns g c =
     let is = known c.args.self.now.times (g.A.Assembly.meaning c.args.self.now.part) c.in_ok-copies.copies c.args.self.now.known (cc) in
     c.law_len.ensures
-    ∙ len_copied c.args.self.now.times is c.args.k c.in_ok-s.s c.in_ok-s.ensures
+    ∙ len_copied c.args.self.now.times is c.args.k c.in_ok-s.s c.in_ok-s.ensures.at

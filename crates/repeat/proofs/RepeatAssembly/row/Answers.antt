@@ -11,5 +11,5 @@ returns-in_err-s g c =
 pub returns : goal.returns
 returns g c =
     let is = known c.args.self.now.times (g.A.Assembly.meaning c.args.self.now.part) c.in_ok-copies.copies c.args.self.now.known (cc) in
-    row_copied c.args.self.now.times is c.args.k c.in_ok-s.s c.in_ok-s.ensures
-    c.place.ensures c.row.ensures c.row-2.ensures
+    row_copied c.args.self.now.times is c.args.k c.in_ok-s.s c.in_ok-s.ensures.at
+    c.in_ok-s.ensures.numbers_are c.row.ensures c.row-2.ensures

@@ -11,5 +11,5 @@ returns-in_err-s g c =
 pub returns : goal.returns
 returns g c =
     let is = known c.args.self.now.times (g.A.Assembly.meaning c.args.self.now.part) c.in_ok-copies.copies c.args.self.now.known (cc) in
-    term_copied c.args.self.now.times is c.args.k c.in_ok-s.s c.args.t c.in_ok-s.ensures
-    c.place.ensures c.term.ensures c.term-2.ensures
+    term_copied c.args.self.now.times is c.args.k c.in_ok-s.s c.args.t c.in_ok-s.ensures.at
+    c.in_ok-s.ensures.numbers_are c.term.ensures c.term-2.ensures

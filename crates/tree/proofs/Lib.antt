@@ -1,0 +1,3 @@
+pub mod Layouts
+pub mod Nodes
+pub mod Asks
