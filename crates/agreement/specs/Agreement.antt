@@ -25,7 +25,8 @@ abbrev pub judge_buffers : {G : Type 0} → Netlist → Buffers G → Option Equ
 judge_buffers b buffers = judge_equations b (length buffers.terms.now) (length buffers.spans.now)
 
 -- a netlist that says the same in another order and with other numbers, and readings of it that are read alike
-pub record SamePlant {G : Type 0} (𝓖 : Group G) (b : Netlist) (r : Readings G) (c : Netlist) (s : Readings G) : Type 0 where
+pub record SamePlant {G : Type 0} (𝓖 : Group G) (b : Netlist) (r : Readings G) (c : Netlist)
+    (s : Readings G) : Type 0 where
   pub alike : Alike b c
   pub read_alike : ReadAlike 𝓖 b alike.there r s
 

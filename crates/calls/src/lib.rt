@@ -1,5 +1,5 @@
-//! The calls that draw on a draft, each kept with its arguments: what it makes of the draft, what it makes of a netlist,
-//! and why it is refused.
+//! The calls that draw on a draft, each kept with its arguments: what it makes of the draft, what it makes of a
+//! netlist, and why it is refused.
 #![tactic(auto)]
 
 pub mod calls;

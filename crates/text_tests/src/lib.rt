@@ -1,5 +1,5 @@
-//! Tests of sheet texts: a walk over a whole text, tables of lines with what is read from each, and tables of texts with
-//! what is drawn and printed of each.
+//! Tests of sheet texts: a walk over a whole text, tables of lines with what is read from each, and tables of texts
+//! with what is drawn and printed of each.
 #![tactic(auto)]
 
 #[cfg(test)]
