@@ -1,5 +1,5 @@
 -- The parts of an agreement, from what is answered on the way.
-use Rattle.std.proofs.Common.{◌≡◌, List, length, None, Option, Ok, Err, Result, refl, ap, subst}
+use Rattle.std.proofs.Common.{◌≡◌, List, length, None, Ok, Err, Result, refl, ap, subst}
 use Rattle.quantity.specs.Group.{Group}
 use Rattle.netlist.specs.Buffers.{filled}
 use Rattle.netlist.specs.Netlist.{Netlist}

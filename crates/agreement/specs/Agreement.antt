@@ -1,5 +1,5 @@
 -- What it comes to when a draft is accepted: the readings, the verdict and the plant.
-use Rattle.std.specs.Prelude.{◌≡◌, ℕ, ◌↔◌, List, length, Ok, None, Option}
+use Rattle.std.specs.Prelude.{◌≡◌, ℕ, ◌↔◌, length, Ok, None, Option}
 use Rattle.quantity.specs.Group.{Group}
 use Rattle.netlist.specs.Buffers.{filled}
 use Rattle.netlist.specs.Netlist.{Netlist}
