@@ -15,7 +15,7 @@ entry_of meaning (Variables count) = variables count
 entry_of meaning (Branch flow across first second) = row (BranchRow flow across first second)
 entry_of meaning (Earth flow across at) = row (EarthRow flow across at)
 entry_of meaning (Law terms) = law terms.now
-entry_of meaning (Place part first second) = assembly (meaning part.now) (first ∷ second ∷ [])
+entry_of meaning (Place part first second) = assembly (meaning part) (first ∷ second ∷ [])
 
 -- one call
 abbrev pub enter : {A : Type 0} → (A → Meaning) → Netlist → Call A → Netlist

@@ -9,8 +9,8 @@ use draft::Draft;
 use netlist::terms::RawTerm;
 use place::place;
 
-/// A call with its arguments, as a draft takes them. An assembly is lent, and a list may place one of `A` many times;
-/// where it mixes kinds, `A` is an `Either` of them.
+/// A call with its arguments, as a draft takes them. `A` is an assembly or a reference to one, and so a list may place
+/// one assembly many times; where a list mixes kinds, `A` is an `Either` of them.
 #[derive(Clone, Copy)]
 pub enum Call<'a, A> {
     /// A node of a domain.
@@ -40,7 +40,7 @@ pub enum Call<'a, A> {
     },
     /// An assembly with its ends at two nodes.
     Place {
-        part: &'a A,
+        part: A,
         first: usize,
         second: usize,
     },
@@ -79,7 +79,7 @@ pub fn make<A: Assembly>(draft: &mut Draft, call: &Call<A>) -> Result<(), CallRe
             first,
             second,
         } => {
-            place(draft, *part, *first, *second)?;
+            place(draft, part, *first, *second)?;
         }
     }
     Ok(())

@@ -1,7 +1,6 @@
 //! A command is drawn: the call that it names is made.
-ghost use Rattle.std.specs.Prelude.{◌≡◌, [], ◌∷◌, OnErr};
+ghost use Rattle.std.specs.Prelude.{◌≡◌, OnErr};
 ghost use Rattle.refusal.specs.Tests.{answer};
-ghost use Rattle.calls.specs.Entries.{assembly, answer_entry, after_entry};
 ghost use Rattle.sheet_reader.specs.Drawing.{judge_command, after_command, singles};
 
 use assembly::Assembly;
@@ -11,8 +10,8 @@ use draft::Draft;
 use parts::single::Single;
 use repeat::Repeat;
 
-// A call of a line other than a C line, which places nothing.
-type LineCall<'a> = Call<'a, Single>;
+// A line places singles in series, and nothing else.
+type LineCall<'a> = Call<'a, &'a Repeat<Single>>;
 
 /// Draws what is commanded, or is refused as the call is.
 pub fn draw(command: Command, draft: &mut Draft) -> Result<(), CallRefusal>
@@ -52,31 +51,17 @@ pub fn draw(command: Command, draft: &mut Draft) -> Result<(), CallRefusal>
             second,
         } => {
             let part = singles(domain, coefficients, times);
-            place_part(draft, &part, first, second)
+            make(
+                draft,
+                &LineCall::Place {
+                    part: &part,
+                    first,
+                    second,
+                },
+            )
         }
         Command::Nothing => Ok(()),
     }
-}
-
-// Generic, since an enum that holds a reference may not be about a layer, which has a ghost field.
-fn place_part<A: Assembly>(
-    draft: &mut Draft,
-    part: &A,
-    first: usize,
-    second: usize,
-) -> Result<(), CallRefusal>
-    ensures answer { result ≡ answer_entry draft.old (assembly (A.Assembly.meaning part.now) (first ∷ second ∷ [])) }
-    ensures netlist { draft.new ≡ after_entry draft.old (assembly (A.Assembly.meaning part.now) (first ∷ second ∷ [])) }
-    ensures kept { OnErr result (draft.new ≡ draft.old) }
-{
-    make(
-        draft,
-        &Call::Place {
-            part,
-            first,
-            second,
-        },
-    )
 }
 
 // So many of these singles in series.
