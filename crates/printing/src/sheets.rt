@@ -2,7 +2,7 @@
 ghost use Rattle.std.specs.Prelude.{◌≡◌, ◌<◌, ◌≤◌, ◌++◌, length, OnOk};
 ghost use Rattle.spelling.specs.Headers.{header_text};
 ghost use Rattle.equation.specs.Equations.{equations_of};
-ghost use Rattle.equation.specs.Printing.{line_of};
+ghost use Rattle.equation.specs.Printing.{line_of, line_bytes};
 ghost use Rattle.printing.specs.Printing.{sheet_text};
 
 use equation::lines::{LINE_BYTES, line};
@@ -12,7 +12,7 @@ use spelling::headers::write_header;
 use std::alloc::AllocError;
 
 fn put_header(equations: usize, buffer: &mut [u8], out: &mut Vec<u8>) -> Result<(), AllocError>
-    requires { 16384 ≤ length buffer.old }
+    requires { line_bytes ≤ length buffer.old }
     ensures { OnOk result (out.new.items ≡ out.old.items ++ header_text equations) }
 {
     let end = write_header(equations, buffer).unwrap();
@@ -20,12 +20,10 @@ fn put_header(equations: usize, buffer: &mut [u8], out: &mut Vec<u8>) -> Result<
 }
 
 fn put_line(sheet: &Sheet, k: usize, buffer: &mut [u8], out: &mut Vec<u8>) -> Result<(), AllocError>
-    requires room { 16384 ≤ length buffer.old }
+    requires room { line_bytes ≤ length buffer.old }
     requires within { k < length (equations_of sheet.now) }
     ensures { OnOk result (out.new.items ≡ out.old.items ++ line_of sheet.now k) }
 {
-    // Read for what every sheet keeps to, so that each of its lines finds room.
-    let _ = sheet.rows();
     let end = line(sheet, k, buffer).unwrap();
     out.extend_from_slice(&buffer[..end])
 }
