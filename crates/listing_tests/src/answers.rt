@@ -1,10 +1,10 @@
 //! What a call answered, as a line: the number it gave, or the refusal.
-use draft::refusals::Refusal;
+use std::fmt::Display;
 
-pub(crate) fn tell(
+pub(crate) fn tell<R: Display + Drop>(
     rt: &HostRuntime,
     call: &str,
-    answer: Result<usize, Refusal>,
+    answer: Result<usize, R>,
 ) -> anyhow::Result<()> {
     match answer {
         Ok(given) => println!(rt; "{call}: {given}")?,

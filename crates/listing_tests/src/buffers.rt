@@ -1,10 +1,11 @@
 //! Buffers that just fit and that are one short, and what they hold afterwards.
 use crate::answers::tell;
+use draft::Draft;
 use equation::lines::line;
 use equation::listing::equations;
 use netlist::spans::Span;
 use netlist::terms::{Order, Term};
-use sheet::{Draft, Sheet};
+use sheet::Sheet;
 use std::io::Write;
 
 const OLD: Term = Term {

@@ -1,7 +1,7 @@
 //! The last of each thing is accepted, and the next refused by its table.
 use crate::answers::tell;
+use draft::Draft;
 use netlist::terms::RawTerm;
-use sheet::Draft;
 
 const TERM: RawTerm = RawTerm {
     coefficient: 1,

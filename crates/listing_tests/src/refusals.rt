@@ -1,7 +1,7 @@
 //! Every refusal of the calls that draw. A call that breaks several rules shows which comes first.
 use crate::answers::tell;
+use draft::Draft;
 use netlist::terms::RawTerm;
-use sheet::Draft;
 
 // Any number may stand for the order: a trial shows that a wrong one is refused.
 fn term(coefficient: i64, order: u32, variable: usize) -> RawTerm {

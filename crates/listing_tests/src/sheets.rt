@@ -1,9 +1,10 @@
 //! Small sheets, and the lines that they print.
 use anyhow::Context;
+use draft::Draft;
 use equation::lines::line;
 use equation::listing::size;
 use netlist::terms::RawTerm;
-use sheet::{Draft, Sheet};
+use sheet::Sheet;
 use spelling::headers::write_header;
 use std::io::Write;
 

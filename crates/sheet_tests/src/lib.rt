@@ -1,37 +1,151 @@
-//! Examples of drawing and of refusals.
+//! Examples of tables and of sheets.
 #![tactic(auto)]
 
 #[cfg(test)]
 mod tests {
-    use draft::refusals::{Argument, Refusal};
-    use sheet::Draft;
+    use netlist::domains::Domain;
+    use netlist::rows::Row;
+    use netlist::terms::Term;
+    use sheet::{Counts, Sheet, Tables};
+    use std::alloc::{AllocError, Global};
     use std::test::Fail;
 
-    // A row's across is another variable than its flow.
+    const BRANCH: Row = Row::Branch {
+        flow: 0,
+        across: 1,
+        first: 0,
+        second: 1,
+    };
+
+    // Two electrical nodes and three variables, with a branch on two of these.
+    fn drawn(heap: Global) -> Result<Tables, AllocError> {
+        let mut tables = Tables::new(heap)?;
+        tables.add_node(Domain::Electrical);
+        tables.add_node(Domain::Electrical);
+        tables.add_variables(3);
+        tables.add_row(BRANCH);
+        Ok(tables)
+    }
+
+    // Nodes, variables, rows and laws are numbered from 0.
     #[test]
-    fn across_is_not_flow(rt: HostRuntime) -> Result<(), Fail> {
-        let mut draft = Draft::new(rt.alloc())?;
-        draft.node(1)?;
-        draft.variables(1)?;
-        let why = Refusal::Taken {
-            argument: Argument::Across,
+    fn numbers_go_up(rt: HostRuntime) -> Result<(), Fail> {
+        let mut tables = Tables::new(rt.alloc())?;
+        assert_eq!(rt; tables.add_node(Domain::Electrical), Some(0));
+        assert_eq!(rt; tables.add_node(Domain::Electrical), Some(1));
+        assert_eq!(rt; tables.add_variables(3), Some(0));
+        assert_eq!(rt; tables.add_variables(1), Some(3));
+        let earth = Row::Earth {
+            flow: 2,
+            across: 3,
+            node: 1,
         };
-        assert_eq!(rt; why.number(), 5);
-        assert_eq!(rt; why.place(), 2);
-        assert_eq!(rt; draft.branch(0, 0, 0, 0), Err(why));
+        assert_eq!(rt; tables.add_row(BRANCH), Some(0));
+        assert_eq!(rt; tables.add_row(earth), Some(1));
+        assert_eq!(rt; tables.add_law(&[Term::value(1, 3)]), Some(0));
         Ok(())
     }
 
-    // Nodes, variables and rows are numbered from 0.
+    // What names a thing that is not drawn, or is taken, does not fit.
     #[test]
-    fn numbers_go_up(rt: HostRuntime) -> Result<(), Fail> {
-        let mut draft = Draft::new(rt.alloc())?;
-        assert_eq!(rt; draft.node(1)?, 0);
-        assert_eq!(rt; draft.node(1)?, 1);
-        assert_eq!(rt; draft.variables(3)?, 0);
-        assert_eq!(rt; draft.variables(1)?, 3);
-        assert_eq!(rt; draft.branch(0, 1, 0, 1)?, 0);
-        assert_eq!(rt; draft.earth(2, 3, 1)?, 1);
+    fn steps_that_do_not_fit(rt: HostRuntime) -> Result<(), Fail> {
+        let mut tables = drawn(rt.alloc())?;
+        assert_eq!(rt; tables.is_taken(1), Some(true));
+        assert_eq!(rt; tables.is_taken(2), Some(false));
+        assert_eq!(rt; tables.is_taken(3), None);
+        assert_eq!(rt; tables.domain(2), None);
+        assert_eq!(rt; tables.add_row(BRANCH), None);
+        let twice = Row::Earth {
+            flow: 2,
+            across: 2,
+            node: 0,
+        };
+        assert_eq!(rt; tables.add_row(twice), None);
+        assert_eq!(rt; tables.add_variables(4000), None);
+        assert_eq!(rt; tables.add_law(&[]), None);
+        assert_eq!(rt; tables.add_law(&[Term::value(0, 0)]), None);
+        assert_eq!(rt; tables.add_law(&[Term::value(1, 3)]), None);
+        let counts = Counts {
+            nodes: 2,
+            variables: 3,
+            rows: 1,
+            laws: 0,
+        };
+        assert_eq!(rt; tables.counts(), counts);
+        Ok(())
+    }
+
+    // A row of two domains does not fit.
+    #[test]
+    fn rows_of_two_domains(rt: HostRuntime) -> Result<(), Fail> {
+        let mut tables = Tables::new(rt.alloc())?;
+        assert_eq!(rt; tables.add_node(Domain::Electrical), Some(0));
+        assert_eq!(rt; tables.add_node(Domain::Rotational), Some(1));
+        assert_eq!(rt; tables.add_variables(2), Some(0));
+        assert_eq!(rt; tables.add_row(BRANCH), None);
+        assert_eq!(rt; tables.domain(1), Some(Domain::Rotational));
+        Ok(())
+    }
+
+    // Laws are found by their numbers, and one after another.
+    #[test]
+    fn laws(rt: HostRuntime) -> Result<(), Fail> {
+        let mut tables = drawn(rt.alloc())?;
+        let one = [Term::value(200, 0), Term::value(-1, 1)];
+        let other = [Term::value(1, 2)];
+        assert_eq!(rt; tables.add_law(&one), Some(0));
+        assert_eq!(rt; tables.add_law(&other), Some(1));
+        let laws = tables.laws();
+        assert_eq!(rt; laws.len(), 2);
+        assert_eq!(rt; laws.term_count(), 3);
+        assert_eq!(rt; laws.law(0), Some(&one[..]));
+        assert_eq!(rt; laws.law(1), Some(&other[..]));
+        assert_eq!(rt; laws.law(2), None);
+        let mut left = laws.iter();
+        assert_eq!(rt; left.next(), Some(&one[..]));
+        assert_eq!(rt; left.next(), Some(&other[..]));
+        assert_eq!(rt; left.next(), None);
+        Ok(())
+    }
+
+    // Nodes and variables are taken back only once nothing names them.
+    #[test]
+    fn cuts(rt: HostRuntime) -> Result<(), Fail> {
+        let mut tables = drawn(rt.alloc())?;
+        assert_eq!(rt; tables.add_law(&[Term::value(1, 0)]), Some(0));
+        assert_eq!(rt; tables.add_law(&[Term::value(1, 2)]), Some(1));
+        assert!(rt; !tables.cut_variables(2));
+        assert!(rt; !tables.cut_nodes(1));
+        tables.cut_laws(1);
+        assert_eq!(rt; tables.laws().term_count(), 1);
+        assert!(rt; tables.cut_variables(2));
+        tables.cut_rows(0);
+        assert_eq!(rt; tables.is_taken(0), Some(false));
+        assert!(rt; !tables.cut_variables(0));
+        assert!(rt; tables.cut_nodes(1));
+        tables.cut_laws(0);
+        assert!(rt; tables.cut_variables(0));
+        let counts = Counts {
+            nodes: 1,
+            variables: 0,
+            rows: 0,
+            laws: 0,
+        };
+        assert_eq!(rt; tables.counts(), counts);
+        Ok(())
+    }
+
+    // A sheet has what its tables had, and gives them up for others.
+    #[test]
+    fn sheets(rt: HostRuntime) -> Result<(), Fail> {
+        let tables = drawn(rt.alloc())?;
+        let mut sheet = Sheet::new(Tables::new(rt.alloc())?);
+        let empty = sheet.replace(tables);
+        assert_eq!(rt; empty.counts().nodes, 0);
+        assert_eq!(rt; sheet.nodes(), 2);
+        assert_eq!(rt; sheet.variables(), 3);
+        assert_eq!(rt; sheet.rows(), &[BRANCH][..]);
+        assert_eq!(rt; sheet.laws().len(), 0);
         Ok(())
     }
 }
