@@ -1,5 +1,5 @@
 -- Readings of the loop.
-use Rattle.std.proofs.Common.{List, [], ◌∷◌, replicate, ℤ, pos, refl, arith}
+use Rattle.std.proofs.Common.{List, [], ◌∷◌, ℤ, pos, refl, arith}
 use Rattle.quantity.specs.Integers.{integers}
 use Rattle.network.specs.Flows.{NodesKeep}
 use Rattle.network.specs.Walks.{Network, forward, Drawn, Lowest, Refuted, network_of}
@@ -42,7 +42,7 @@ loop_holds = answers integers loop_drawn (values (pos 0)) Holds potentials refl 
     filling
 
 refuted : Refuted integers (R (pos 1)) 1 0
-refuted = refuted_from integers _ _ _ (omega arith)
+refuted = refuted_from integers (R (pos 1)) _ _ (omega arith)
     (potentials_close_walks integers (R (pos 1)) 0 (λ v. pos 0) (λ j l. absurd (omega arith)))
     ((1, forward 0 ∷ [], (omega arith, refl, refl), nonzero (pos 1) refl))
 

@@ -1,5 +1,5 @@
 -- What the texts draw.
-use Rattle.std.proofs.Common.{◌≡◌, sym, ◌∙◌, List, [], ◌∷◌, refl, arith, Ok, Err, codes, inl, inr, pos, negsuc}
+use Rattle.std.proofs.Common.{◌≡◌, sym, ◌∙◌, [], ◌∷◌, refl, arith, Ok, Err, codes, inl, inr, pos, negsuc}
 use Rattle.std.specs.Fmt.{digits}
 use Rattle.netlist.specs.Netlist.{Netlist, empty}
 use Rattle.draft.specs.declared.refusals.Argument.TheVariants.{Across}

@@ -61,7 +61,7 @@ triangle_holds = answers integers triangle_drawn (values (pos 7)) Holds potentia
     filling
 
 refuted : Refuted integers (R (pos 8)) 3 2
-refuted = refuted_from integers _ _ _ (omega arith)
+refuted = refuted_from integers (R (pos 8)) _ _ (omega arith)
     (potentials_close_walks integers (R (pos 8)) 2 (with_earth integers (read integers potentials)) (below 2 _ (refl, (refl, tt))))
     ((1, forward 0 ∷ forward 1 ∷ backward 2 ∷ [], (omega arith, refl, (omega arith, refl, (omega arith, refl, refl))), nonzero (negsuc 0) refl))
 

@@ -1,5 +1,5 @@
 -- Readings of the loop, as whole numbers.
-use Rattle.std.proofs.Common.{List, [], ◌∷◌, replicate, ℤ, pos, refl, map, arith}
+use Rattle.std.proofs.Common.{List, [], ◌∷◌, ℤ, pos, refl, map, arith}
 use Rattle.std.specs.Int.{int_wrap}
 use Rattle.quantity.specs.Wholes.{wholes, whole}
 use Rattle.quantity.specs.declared.numbers.Whole.{Whole}
@@ -48,7 +48,7 @@ loop_holds = answers wholes loop_drawn (values (pos 0)) Holds potentials refl re
 
 refuted : Refuted wholes (R (pos 1)) 1 0
 unfolding int_wrap
-refuted = refuted_from wholes _ _ _ (omega arith)
+refuted = refuted_from wholes (R (pos 1)) _ _ (omega arith)
     (potentials_close_walks wholes (R (pos 1)) 0 (λ v. wholes.zero) (λ j l. absurd (omega arith)))
     ((1, forward 0 ∷ [], (omega arith, refl, refl), nonzero_whole (pos 1) refl))
 

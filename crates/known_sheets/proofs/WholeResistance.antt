@@ -1,5 +1,5 @@
 -- Readings of the resistance, and of the empty sheet, as whole numbers.
-use Rattle.std.proofs.Common.{◌≡◌, ℕ, ◌<◌, List, [], ◌∷◌, ℤ, pos, negsuc, ◌+ℤ◌, ◌*ℤ◌, refl, ap, ◌∙◌, map, arith}
+use Rattle.std.proofs.Common.{◌≡◌, ℕ, ◌<◌, List, [], ◌∷◌, pos, negsuc, refl, ap, ◌∙◌, map, arith}
 use Rattle.std.specs.Int.{int_wrap}
 use Rattle.netlist.specs.declared.rows.Row.TheVariants.{Branch, Earth}
 use Rattle.quantity.specs.Wholes.{wholes, whole}

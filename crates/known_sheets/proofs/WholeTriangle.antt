@@ -1,5 +1,5 @@
 -- Readings of the triangle, as whole numbers.
-use Rattle.std.proofs.Common.{◌≡◌, ℕ, ◌+◌, ◌<◌, List, [], ◌∷◌, replicate, ℤ, pos, negsuc, ◌+ℤ◌, ◌*ℤ◌, refl, ap, ◌∙◌, map, arith}
+use Rattle.std.proofs.Common.{◌≡◌, ℕ, ◌+◌, ◌<◌, List, [], ◌∷◌, replicate, ℤ, pos, negsuc, refl, ap, ◌∙◌, map, arith}
 use Rattle.std.specs.Int.{int_wrap}
 use Rattle.quantity.specs.Group.{minus}
 use Rattle.netlist.specs.declared.rows.Row.TheVariants.{Branch}
@@ -75,7 +75,7 @@ triangle_holds = answers wholes triangle_drawn (values (pos 7)) Holds potentials
 
 refuted : Refuted wholes (R (pos 8)) 3 2
 unfolding int_wrap
-refuted = refuted_from wholes _ _ _ (omega arith)
+refuted = refuted_from wholes (R (pos 8)) _ _ (omega arith)
     (potentials_close_walks wholes (R (pos 8)) 2 (with_earth wholes (read wholes potentials)) (below 2 _ (refl, (refl, tt))))
     ((1, forward 0 ∷ forward 1 ∷ backward 2 ∷ [], (omega arith, refl, (omega arith, refl, (omega arith, refl, refl))), nonzero_whole (negsuc 0) refl))
 
