@@ -1,6 +1,12 @@
 pub mod Overs
 pub mod Summing
 pub mod Putting
+pub mod Events
+pub mod Starts
+pub mod Steps
+pub mod Passes
+pub mod Prefixes
+pub mod NodeSums
 pub mod Sizing
 pub mod Counting
 pub mod Finding

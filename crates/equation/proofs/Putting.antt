@@ -17,7 +17,7 @@ pub record Listed (old : List Term) (olds : List Span) (all : List (List Term)) 
   pub spans : nows ≡ over olds (spans_from 0 (take k all))
   pub next : at ≡ length (flat (take k all))
 
-length_spans : (a : ℕ) (es : List (List Term)) → length (spans_from a es) ≡ length es
+pub length_spans : (a : ℕ) (es : List (List Term)) → length (spans_from a es) ≡ length es
 length_spans a [] = refl
 length_spans a (e ∷ es) = omega (arith, length_spans (a + length e) es)
 

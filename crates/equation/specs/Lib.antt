@@ -1,5 +1,6 @@
 pub mod Refusals
 pub mod Equations
+pub mod Touches
 pub mod Listing
 pub mod Printing
 pub mod Placed
