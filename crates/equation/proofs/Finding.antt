@@ -1,14 +1,14 @@
 -- Equation k of a list of equations, and what a buffer holds from its start.
-use Rattle.std.proofs.Common.{◌≡◌, ℕ, ◌+◌, ◌<◌, ◌≤◌, List, [], ◌∷◌, ◌++◌, map, length, get_or, drop, Some, None, Option, sym, ap, ◌∙◌, arith}
+use Rattle.std.proofs.Common.{◌≡◌, ℕ, ◌+◌, ◌<◌, ◌≤◌, List, [], ◌∷◌, ◌++◌, map, length, get_or, drop, take, Some, None, Option, refl, sym, ap, ◌∙◌, arith}
 use Rattle.std.specs.Option.{option_to_list}
 use Rattle.std.proofs.lemmas.List.FromFn.{length-map-range_with_len, get_or-map-range_with_len}
-use Rattle.std.proofs.lemmas.List.{get_or-append-add, get_or_append_left, get_or-map, length-append, length-drop, drop_more}
+use Rattle.std.proofs.lemmas.List.{get_or-append-add, get_or_append_left, get_or-map, length-append, length-drop, drop_more, append_assoc, take_at}
 use Rattle.netlist.specs.declared.rows.Row.{Row}
 use Rattle.netlist.specs.declared.terms.Term.{Term}
 use Rattle.netlist.specs.Netlist.{Netlist}
 use Rattle.equation.specs.Equations.{term_at, node_sum, node_sums, row_equation, listed, equations_of}
 use Rattle.equation.proofs.Counting.{length_listed}
-use Rattle.equation.proofs.Putting.{Next}
+use Rattle.equation.proofs.Putting.{Next, NextAll}
 
 module _ (laws : List (List Term)) (rows : List (Row ℕ)) (nodes variables : ℕ) where
   pub law_at : (k : ℕ) → k < length laws → get_or (listed laws rows nodes variables) k [] ≡ get_or laws k []
@@ -22,6 +22,15 @@ module _ (laws : List (List Term)) (rows : List (Row ℕ)) (nodes variables : �
       get_or-append-add laws (sums ++ own) n []
       ∙ get_or_append_left sums own [] n (omega arith)
       ∙ get_or-map-range_with_len (node_sum rows) 0 nodes n n [] h (omega arith)
+
+  pub nodes_at : take (length laws + length (node_sums rows nodes)) (listed laws rows nodes variables) ≡ take (length laws) (listed laws rows nodes variables) ++ node_sums rows nodes
+  nodes_at =
+      let sums = node_sums rows nodes in
+      let own = map (row_equation variables) rows in
+      let n = length laws + length sums in
+      ap (take n) (sym (append_assoc laws sums own))
+      ∙ take_at (laws ++ sums) own n (length-append laws sums)
+      ∙ ap (λ (es : List (List Term)). es ++ sums) (sym (take_at laws (sums ++ own) (length laws) refl))
 
   pub row_at : (i : ℕ) (d : Row ℕ) → i < length rows → get_or (listed laws rows nodes variables) (length laws + (nodes + i)) [] ≡ row_equation variables (get_or rows i d)
   row_at i d h =
@@ -46,6 +55,10 @@ module _ (b : Netlist) (k : ℕ) where
       let here = law_at b.laws b.rows (length b.domains) b.variables k within in
       (within, cc, record { within = omega (arith, count); is = cc })
 
+  -- no law is left
+  pub no_law_left : k ≤ length b.laws → drop k b.laws ≡ [] → k ≡ length b.laws
+  no_law_left within none = omega (arith, length-drop k b.laws, ap length none)
+
   pub next_node : (node : ℕ) (rows : List (Row ℕ)) → node < length b.domains → rows ≡ b.rows → k ≡ length b.laws + node → Next (equations_of b) k (node_sum rows node)
   next_node node rows h same at = record {
     within = omega (arith, count);
@@ -54,6 +67,18 @@ module _ (b : Netlist) (k : ℕ) where
         ∙ node_at b.laws b.rows (length b.domains) b.variables node h
         ∙ ap (λ (rs : List (Row ℕ)). node_sum rs node) (sym same);
   }
+
+  pub next_nodes : (nodes : ℕ) (rows : List (Row ℕ)) → nodes ≡ length b.domains → rows ≡ b.rows → k ≡ length b.laws → NextAll (equations_of b) k (node_sums rows nodes)
+  next_nodes nodes rows same_nodes same at =
+      let sums : node_sums b.rows (length b.domains) ≡ node_sums rows nodes = λ i. node_sums (sym same i) (sym same_nodes i) in
+      let many = length-map-range_with_len (node_sum rows) 0 nodes in
+      record {
+        within = omega (arith, count, many);
+        are =
+            (λ i. take (at i + length (sym sums i)) (equations_of b))
+            ∙ nodes_at b.laws b.rows (length b.domains) b.variables
+            ∙ (λ i. take (sym at i) (equations_of b) ++ sums i);
+      }
 
   pub next_row : (i variables : ℕ) (rows : List (Row ℕ)) (d : Row ℕ) (e : List Term) → i < length rows → rows ≡ b.rows → variables ≡ b.variables → k ≡ length b.laws + (length b.domains + i) → e ≡ row_equation variables (get_or rows i d) → Next (equations_of b) k e
   next_row i variables rows d e h same same_variables at own =

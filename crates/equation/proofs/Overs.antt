@@ -1,6 +1,6 @@
 -- A buffer that is filled from its start on, one element or one list after another.
-use Rattle.std.proofs.Common.{◌≡◌, ◌+◌, ◌<◌, ◌≤◌, List, [], ◌∷◌, ◌++◌, length, get_or, drop, set, sym, ap, ◌∙◌, arith}
-use Rattle.std.proofs.lemmas.List.{set_at, drop_more, append_assoc, length_push, length-append, length-drop}
+use Rattle.std.proofs.Common.{◌≡◌, ℕ, ◌+◌, ◌<◌, ◌≤◌, List, [], ◌∷◌, ◌++◌, length, get_or, drop, take, set, sym, ap, ◌∙◌, arith}
+use Rattle.std.proofs.lemmas.List.{set_at, drop_more, append_assoc, drop-drop, length_push, length-append, length-drop}
 use Rattle.netlist.specs.Buffers.{written, over}
 use Rattle.netlist.proofs.Buffers.{written_written, written_over}
 
@@ -22,3 +22,10 @@ module _ {X : Type 0} where
       (λ i. written (sym (written_over old xs) i) (from i) ys)
       ∙ written_written old xs ys 0 (omega arith)
       ∙ written_over old (xs ++ ys)
+
+  -- the k elements from place a on are new
+  pub written_part : (old new : List X) (a k : ℕ) → length new ≡ k → take a old ++ (new ++ drop k (drop a old)) ≡ written old a new
+  written_part old new a k h =
+      let end : a + k ≡ a + length new = omega (arith, h) in
+      sym (append_assoc (take a old) new (drop k (drop a old)))
+      ∙ ap (λ back. (take a old ++ new) ++ back) (drop-drop k a old ∙ ap (λ m. drop m old) end)

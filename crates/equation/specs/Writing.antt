@@ -5,6 +5,8 @@ use Rattle.netlist.specs.declared.rows.Row.TheVariants.{Branch, Earth}
 use Rattle.netlist.specs.declared.spans.Span.{Span}
 use Rattle.netlist.specs.declared.terms.Term.{Term}
 use Rattle.netlist.specs.Buffers.{written}
+use Rattle.netlist.specs.Pieces.{flat}
+use Rattle.equation.specs.Listing.{spans_from}
 use Rattle.equation.specs.declared.rows.RowEquation.{RowEquation}
 use Rattle.equation.specs.declared.writing.Lister.{Lister}
 
@@ -16,14 +18,29 @@ pub record Put (old : List Term) (olds : List Span) (at k : ℕ) (e now : List T
   pub next_term : at' ≡ at + length e
   pub next_span : k' ≡ k + 1
 
+-- the same of equations es, one after another
+pub record PutAll (old : List Term) (olds : List Span) (at k : ℕ) (es : List (List Term)) (now : List Term)
+    (nows : List Span) (at' k' : ℕ) : Type 0 where
+  pub terms : now ≡ written old at (flat es)
+  pub spans : nows ≡ written olds k (spans_from at es)
+  pub next_term : at' ≡ at + length (flat es)
+  pub next_span : k' ≡ k + length es
+
 abbrev pub span_at : ℕ → ℕ → Span
 span_at at count = record { offset = at; length = count }
 
--- A lister has put an equation behind the others, or has only noted where its terms stand. It keeps its two buffers.
+-- A lister has put an equation, or some, behind the others, or has only noted where an equation's terms stand. It keeps
+-- its two buffers.
 pub record Lists (before : Lister) (e : List Term) (after : Lister) : Type 0 where
   pub same_terms : after.terms.ghost_name ≡ before.terms.ghost_name
   pub same_spans : after.spans.ghost_name ≡ before.spans.ghost_name
   pub put : Put before.terms.now before.spans.now before.written before.listed e
+      after.terms.now after.spans.now after.written after.listed
+
+pub record ListsAll (before : Lister) (es : List (List Term)) (after : Lister) : Type 0 where
+  pub same_terms : after.terms.ghost_name ≡ before.terms.ghost_name
+  pub same_spans : after.spans.ghost_name ≡ before.spans.ghost_name
+  pub put : PutAll before.terms.now before.spans.now before.written before.listed es
       after.terms.now after.spans.now after.written after.listed
 
 pub record Closes (before : Lister) (count : ℕ) (after : Lister) : Type 0 where

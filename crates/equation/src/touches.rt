@@ -19,7 +19,9 @@ pub(crate) fn leaves(row: Row) -> Option<Touch>
     match row {
         Row::Branch { first, second, .. } if first == second => None,
         Row::Branch {
-            flow, first: node, ..
+            flow,
+            first: node,
+            ..
         }
         | Row::Earth { flow, node, .. } => Some(Touch {
             node,

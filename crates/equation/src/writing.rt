@@ -1,12 +1,14 @@
 //! All equations of a sheet, written one after another.
-ghost use Rattle.std.specs.Prelude.{◌≡◌, ◌+◌, ◌<◌, ◌≤◌, length, slice_set};
+ghost use Rattle.std.specs.Prelude.{◌≡◌, ◌+◌, ◌<◌, ◌≤◌, length, slice_set, true};
+ghost use Rattle.std.specs.List.{list_all};
 ghost use Rattle.netlist.specs.Buffers.{over};
 ghost use Rattle.netlist.specs.Pieces.{flat};
-ghost use Rattle.equation.specs.Equations.{node_sum, equations_of};
+ghost use Rattle.equation.specs.Equations.{node_sums, equations_of};
 ghost use Rattle.equation.specs.Listing.{spans_from, listing_of};
-ghost use Rattle.equation.specs.Writing.{Closes, Lists};
+ghost use Rattle.equation.specs.Writing.{Closes, Lists, ListsAll};
+ghost use Rattle.equation.specs.Touches.{touches_below};
 
-use crate::nodes::put_node;
+use crate::cursors::put_node_sums;
 use crate::rows::RowEquation;
 use netlist::rows::Row;
 use netlist::spans::Span;
@@ -49,14 +51,16 @@ impl Lister<'_> {
         self.close(equation.len());
     }
 
-    // Lists the sum of the flows at a node.
-    fn list_node(&mut self, rows: &[Row], node: usize)
-        requires terms_room { self.old.written + length (node_sum rows.now node) ≤ length self.old.terms.now }
-        requires spans_room { self.old.listed < length self.old.spans.now }
-        ensures { Lists self.old (node_sum rows.now node) self.new }
+    // Lists the sums of the flows at all nodes, of which there are so many.
+    fn list_nodes(&mut self, rows: &[Row], nodes: usize)
+        requires below { list_all (touches_below nodes) rows.now ≡ true }
+        requires terms_room { self.old.written + length (flat (node_sums rows.now nodes)) ≤ length self.old.terms.now }
+        requires spans_room { self.old.listed + nodes ≤ length self.old.spans.now }
+        ensures { ListsAll self.old (node_sums rows.now nodes) self.new }
     {
-        let count = put_node(rows, node, &mut self.terms[self.written..]);
-        self.close(count);
+        let spans = &mut self.spans[self.listed..self.listed + nodes];
+        self.written = put_node_sums(rows, self.written, self.terms, spans);
+        self.listed += nodes;
     }
 }
 
@@ -77,9 +81,7 @@ pub(crate) fn put_equations(sheet: &Sheet, terms: &mut [Term], spans: &mut [Span
         lister.list(law);
     }
     let rows = sheet.rows();
-    for node in 0..sheet.nodes() {
-        lister.list_node(rows, node);
-    }
+    lister.list_nodes(rows, sheet.nodes());
     for row in rows {
         lister.list(RowEquation::new(*row, sheet.variables()).terms());
     }

@@ -1,11 +1,13 @@
 use Rattle.std.proofs.Common.{ℕ, ◌≤◌, drop, length, refl, ap, ◌∙◌, arith, rules}
-use Rattle.std.proofs.lemmas.List.{length-drop}
+use Rattle.std.specs.List.{list_all}
 use Rattle.netlist.specs.declared.rows.Row.TheVariants.{Branch}
 use Rattle.sheet.specs.Views.{laws_left}
 use Rattle.equation.specs.Equations.{equations_of}
+use Rattle.equation.specs.Touches.{touches_below}
+use Rattle.equation.proofs.NodeSums.{all_below, count}
 use Rattle.equation.proofs.Counting.{length_listed}
-use Rattle.equation.proofs.Finding.{next_law, next_node, next_row}
-use Rattle.equation.proofs.Putting.{terms_room, spans_room, one_more, all_terms, all_spans}
+use Rattle.equation.proofs.Finding.{next_law, no_law_left, next_nodes, next_row}
+use Rattle.equation.proofs.Putting.{terms_room, spans_room, one_more, all_terms_room, all_spans_room, all_more, all_terms, all_spans}
 use Rattle.equation.proofs.writing.put_equations.Goals as goal
 
 pub list-requires : goal.list-requires
@@ -33,36 +35,30 @@ loop-law-preserved c =
       listed = one_more inv.listed c.requires.terms_room c.requires.spans_room n.2 put;
     }
 
-pub loop-node-init : goal.loop-node-init
-loop-node-init c =
-    let laws = c.args.sheet.now.laws in
-    let inv = c.loop-law.invariant in
+pub list_nodes-requires-clause-below : goal.list_nodes-requires-clause-below
+list_nodes-requires-clause-below c =
+    let b = c.args.sheet.now in
+    (λ i. list_all (touches_below (c.nodes.ensures i)) (c.rows-rows.ensures.value i)) ∙ all_below b.domains b.rows c.rows-rows.ensures.sound.joined
+
+pub list_nodes-requires-clause-terms_room : goal.list_nodes-requires-clause-terms_room
+list_nodes-requires-clause-terms_room c =
+    let n = next_nodes c.args.sheet.now c.loop-law.lister.listed c.nodes.result c.rows-rows.result.now c.nodes.ensures c.rows-rows.ensures.value (no_law_left c.args.sheet.now c.loop-law.lister.listed c.loop-law.invariant.within (c.loop-law.invariant.left ∙ c.in-None.ensures.steps.0)) in
+    all_terms_room c.loop-law.invariant.listed c.requires.terms_room c.requires.spans_room n
+
+pub list_nodes-requires-clause-spans_room : goal.list_nodes-requires-clause-spans_room
+list_nodes-requires-clause-spans_room c =
+    let n = next_nodes c.args.sheet.now c.loop-law.lister.listed c.nodes.result c.rows-rows.result.now c.nodes.ensures c.rows-rows.ensures.value (no_law_left c.args.sheet.now c.loop-law.lister.listed c.loop-law.invariant.within (c.loop-law.invariant.left ∙ c.in-None.ensures.steps.0)) in
+    omega (arith, all_spans_room c.loop-law.invariant.listed c.requires.terms_room c.requires.spans_room n, count c.rows-rows.result.now c.nodes.result)
+
+pub loop-row-init : goal.loop-row-init
+loop-row-init c =
+    let n = next_nodes c.args.sheet.now c.loop-law.lister.listed c.nodes.result c.rows-rows.result.now c.nodes.ensures c.rows-rows.ensures.value (no_law_left c.args.sheet.now c.loop-law.lister.listed c.loop-law.invariant.within (c.loop-law.invariant.left ∙ c.in-None.ensures.steps.0)) in
+    let put = c.list_nodes.ensures.put in
     record {
       same_terms = refl;
       same_spans = refl;
-      place = omega (arith, inv.within, length-drop c.loop-law.lister.listed laws, ap length (inv.left ∙ c.in-None.ensures.steps.0));
-      listed = inv.listed;
-    }
-
-pub list_node-requires : goal.list_node-requires
-list_node-requires c =
-    let inv = c.loop-node.invariant in
-    let n = next_node c.args.sheet.now c.loop-node.lister.listed c.loop-node.node c.rows-rows.result.now (omega (arith, c.loop-node-test.true)) c.rows-rows.ensures.value inv.place in
-    record {
-      terms_room = terms_room inv.listed c.requires.terms_room c.requires.spans_room n;
-      spans_room = spans_room inv.listed c.requires.terms_room c.requires.spans_room n;
-    }
-
-pub loop-node-preserved : goal.loop-node-preserved
-loop-node-preserved c =
-    let inv = c.loop-node.invariant in
-    let n = next_node c.args.sheet.now c.loop-node.lister.listed c.loop-node.node c.rows-rows.result.now (omega (arith, c.loop-node-test.true)) c.rows-rows.ensures.value inv.place in
-    let put = c.list_node.ensures.put in
-    record {
-      same_terms = c.list_node.ensures.same_terms ∙ inv.same_terms;
-      same_spans = c.list_node.ensures.same_spans ∙ inv.same_spans;
-      place = omega (arith, inv.place, put.next_span);
-      listed = one_more inv.listed c.requires.terms_room c.requires.spans_room n put;
+      place = omega (arith, put.next_span, no_law_left c.args.sheet.now c.loop-law.lister.listed c.loop-law.invariant.within (c.loop-law.invariant.left ∙ c.in-None.ensures.steps.0), c.nodes.ensures, count c.rows-rows.result.now c.nodes.result);
+      listed = all_more c.loop-law.invariant.listed c.requires.terms_room c.requires.spans_room n put;
     }
 
 pub list-requires-in-loop-row : goal.list-requires-in-loop-row

@@ -18,17 +18,6 @@ invariant-loop-law l =
       listed : Listed l.fn.terms l.fn.spans (equations_of b) lister.terms.now lister.spans.now lister.written lister.listed;
     }
 
-abbrev pub invariant-loop-node : goal.invariant-loop-node
-invariant-loop-node l =
-    let b = l.sheet in
-    let lister = l.lister in
-    record {
-      same_terms : lister.terms.ghost_name ≡ l.initial.lister.terms.ghost_name;
-      same_spans : lister.spans.ghost_name ≡ l.initial.lister.spans.ghost_name;
-      place : lister.listed ≡ length b.laws + l.node;
-      listed : Listed l.fn.terms l.fn.spans (equations_of b) lister.terms.now lister.spans.now lister.written lister.listed;
-    }
-
 abbrev pub invariant-loop-row : goal.invariant-loop-row
 invariant-loop-row l =
     let b = l.sheet in
