@@ -1,7 +1,7 @@
 -- What rows and laws keep to that fit.
 use Rattle.std.proofs.Common.{◌≡◌, ℕ, ◌<◌, ◌+◌, ◌≤◌, true, List, length, eqb, arith}
 use Rattle.std.specs.List.{list_all}
-use Rattle.std.proofs.lemmas.Bool.{and_parts, and_from, not-true, ltb-true, ltb-false, leb-true, eqb-false, lt-ltb, le-ltb, ne_eqb, not_from_false}
+use Rattle.std.proofs.lemmas.Bool.{and_parts, not-true, ltb-true, ltb-false, leb-true, eqb-false}
 use Rattle.netlist.specs.declared.rows.Row.{Row}
 use Rattle.netlist.specs.declared.terms.Term.{Term}
 use Rattle.netlist.specs.Limits.{most_rows, most_laws, most_terms}
@@ -25,9 +25,6 @@ free_parts b v h =
     let p = and_parts _ _ h in
     (ltb-true _ _ p.0, omega (arith, ltb-false 0 _ (not-true (taken_by b.rows v) p.1)))
 
-free_from : (b : Netlist) (v : ℕ) → v < b.variables → uses b.rows v ≡ 0 → is_free b v ≡ true
-free_from b v drawn free = and_from _ _ (lt-ltb _ _ drawn) (not_from_false _ (le-ltb 0 (uses b.rows v) (omega arith)))
-
 pub fits_parts : (b : Netlist) (row : Row ℕ) → row_fits b row ≡ true → Fits b row
 fits_parts b row h =
     let p = and_parts _ _ h in
@@ -45,14 +42,6 @@ fits_parts b row h =
       across_free = across.1;
       room = ltb-true _ _ q.1;
     }
-
-pub fits_from : (b : Netlist) (row : Row ℕ) → Fits b row → row_fits b row ≡ true
-fits_from b row f =
-    let flow = free_from b (flow_of row) f.flow_drawn f.flow_free in
-    let across = free_from b (across_of row) f.across_drawn f.across_free in
-    and_from _ _ f.joins
-    (and_from _ _ (and_from _ _ flow (and_from _ _ across (not_from_false _ (ne_eqb _ _ f.apart))))
-    (lt-ltb _ _ f.room))
 
 -- the law keeps to a law's bounds, and there is room
 pub record LawFits (n : ℕ) (laws : List (List Term)) (law : List Term) : Type 0 where

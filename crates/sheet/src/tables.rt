@@ -5,7 +5,7 @@ use netlist::rows::Row;
 use std::marker::Model;
 
 mod adding;
-pub mod asking;
+mod asking;
 mod cutting;
 
 /// The nodes, variables, rows and laws that are drawn. Each table has room for all that the limits allow, so
