@@ -20,7 +20,7 @@ pub record Accepted (c : Netlist) (r : Readings Whole) (verdict : Verdict) (ps :
   pub filled : Filled wholes c r ps verdict
   pub printed : new ≡ old ++ accepted_text c verdict ps
 
--- The text draws the netlist, and the readings have a value and a rate for each of its variables.
+-- The text draws the netlist, and the readings are values and rates of all of its variables.
 pub record Given (text readings : Bytes) (c : Netlist) (r : Readings Whole) : Type 0 where
   pub drawn : ReadsText text empty (Ok tt) c
   pub read : ReadsReadings readings c.variables (Ok tt) [] [] r.values r.rates

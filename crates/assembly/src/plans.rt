@@ -1,5 +1,5 @@
-//! What a plan is made of, in the plan's own numbers. Its nodes are the ends, two of them, and then the
-//! inner nodes: node 0 is the first end, node 1 the second, node 2 + j inner node j.
+//! What a plan is made of, in the plan's own numbers. The two ends are its nodes 0
+//! and 1, and inner node j is node 2 + j.
 
 ghost use Rattle.std.specs.Prelude.{◌≡◌};
 ghost use Rattle.assembly.specs.Meaning.{is_small};

@@ -10,7 +10,7 @@ use Rattle.checking.specs.declared.verdicts.Verdict.{Verdict}
 use Rattle.checking.specs.Verdicts.{VerdictIs}
 use Rattle.checking.specs.Potentials.{Filled}
 
--- there is not a value and a rate for each variable, or not a potential for each node
+-- values or rates are not as many as variables, or potentials not as many as nodes
 abbrev pub is_miscounted : {G : Type 0} → Netlist → Readings G → ℕ → Bool
 is_miscounted b r potentials =
     not (length r.values == b.variables)

@@ -11,8 +11,7 @@ use Rattle.checking.specs.declared.verdicts.Verdict.{Verdict}
 use Rattle.checking.specs.declared.verdicts.Verdict.TheVariants.{Holds, Law, Node, Row}
 
 -- The readings agree with the netlist. Else law k is the lowest that fails. If none does, node n is the
--- lowest whose flows do not add to zero. If none is, row k is the lowest such that the rows up to it have a
--- closed walk that does not add to zero.
+-- lowest that has an excess. If none has, row k is the first with which some closed walk fails to come to zero.
 abbrev pub VerdictIs : {G : Type 0} → Group G → Netlist → Readings G → Verdict → Type 0
 VerdictIs 𝓖 b r Holds = ReadingsAgree 𝓖 b r
 VerdictIs 𝓖 b r (Law k) = FirstLaw 𝓖 b.laws r k

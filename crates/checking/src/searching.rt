@@ -1,4 +1,4 @@
-//! The lowest law that fails, and the lowest node whose flows do not add to zero.
+//! The lowest law that fails, and the lowest node that has an excess.
 ghost use Rattle.std.specs.Prelude.{length, MatchOption};
 ghost use Rattle.network.specs.Flows.{NodesKeep, FirstNode};
 ghost use Rattle.network.specs.Laws.{LawsHold, FirstLaw};
@@ -21,7 +21,7 @@ pub(crate) fn first_law<K: Quantity>(sheet: &Sheet, readings: Readings<K>) -> Op
         .position(|law| !law_sum(law, readings).equals(K::zero()))
 }
 
-// The lowest node whose flows do not add to zero.
+// The lowest node that has an excess.
 pub(crate) fn first_node<K: Quantity>(sheet: &Sheet, values: &[K]) -> Option<usize>
     ensures { let b = sheet.now in
         let n = length b.domains in

@@ -6,8 +6,8 @@ pub enum Verdict {
     Holds,
     /// The lowest law that fails.
     Law { law: usize },
-    /// The lowest node whose flows do not add to zero.
+    /// The lowest node that has an excess.
     Node { node: usize },
-    /// The lowest row such that the rows up to it have a closed walk that does not add to zero.
+    /// The first row with which some closed walk fails to come to zero.
     Row { row: usize },
 }

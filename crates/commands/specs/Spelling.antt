@@ -48,7 +48,8 @@ spelled c fs =
     (cond (c == 66) (Branch (number_at fs 0) (number_at fs 1) (number_at fs 2) (number_at fs 3))  -- B
     (cond (c == 69) (Earth (number_at fs 0) (number_at fs 1) (number_at fs 2))  -- E
     (cond (c == 76) (Law (slotted (spelled_terms fs)))  -- L
-    (cond (c == 67) (Repeat (number_at fs 0) (four_coefficients fs) (number_at fs 5) (number_at fs 6) (number_at fs 7))  -- C
+    (cond (c == 67)  -- C
+    (Repeat (number_at fs 0) (four_coefficients fs) (number_at fs 5) (number_at fs 6) (number_at fs 7))
     Nothing)))))
 
 abbrev pub command_of : Bytes → Command

@@ -31,17 +31,17 @@ pub enum Argument {
 /// Why a call of a draft is refused. Its cause is always 0.
 #[derive(Clone, Copy, PartialEq, Eq, Debug)]
 pub enum DraftRefusal {
-    /// A limit of the draft would be passed.
+    /// A table would hold more than it may.
     Limit { table: Table },
-    /// A node number is not drawn.
+    /// There is no node of this number yet.
     NoNode { argument: Argument },
-    /// A variable number is not drawn.
+    /// There is no variable of this number yet.
     NoVariable { argument: Argument },
-    /// A domain is not 1 to 4, or the two nodes of a branch differ in domain.
+    /// A number names no domain, or a branch leads from one domain to another.
     Domain { argument: Argument },
-    /// A row's variable is taken, or its across is its flow.
+    /// Another row has the variable, or a row has one variable as flow and across.
     Taken { argument: Argument },
-    /// A coefficient is 0 or too large. Terms are counted from 1.
+    /// The size of a coefficient is zero or too large. Terms are counted from 1.
     Coefficient { term: usize },
     /// A law has no terms, or more than eight.
     TermCount,

@@ -16,7 +16,7 @@ abbrev pub minus : ℕ → Term
 minus v = record { coefficient = negsuc 0; order = Value; variable = v }
 
 -- What a row adds to the sum of the flows at node n: a branch's first node gets +1, its second -1, an
--- earth's node +1. A branch with both ends on one node adds nothing.
+-- earth's node +1. A branch that ends where it begins adds nothing.
 abbrev pub term_at : ℕ → Row ℕ → Option Term
 term_at n (Branch flow across first second) =
     cond (first == second) None (cond (first == n) (Some (plus flow)) (cond (second == n) (Some (minus flow)) None))
@@ -30,7 +30,8 @@ node_sum rows n = flat_map (λ row. option_to_list (term_at n row)) rows
 abbrev pub node_sums : List (Row ℕ) → ℕ → List (List Term)
 node_sums rows n = map (node_sum rows) (range_with_len 0 n)
 
--- Across, minus the potential of the first node, plus that of the second, of which an earth has none.
+-- The across with +1, the potential of the node where the row begins with -1, and with +1 that of the node where it ends,
+-- if it ends at one.
 -- The potential of node n is numbered variable count plus n.
 abbrev pub row_equation : ℕ → Row ℕ → List Term
 row_equation variables (Branch flow across first second) =

@@ -36,7 +36,7 @@ Absent b v = (n : ℕ) → n < length b.domains → naming v (node_equation b n)
 abbrev pub NoFlow : Netlist → ℕ → Type 0
 NoFlow b v = (k : ℕ) (d : Row ℕ) → k < length b.rows → flow_of (slice_index_or b.rows k d) ≢ v
 
--- a branch with both ends on one node stands nowhere
+-- a branch that ends where it begins stands nowhere
 abbrev pub PlacedRow : Netlist → Row ℕ → Type 0
 PlacedRow b (Branch flow across first second) =
     (first ≡ second → Absent b flow) × ((first ≢ second) → Between b flow first second)

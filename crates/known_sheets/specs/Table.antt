@@ -28,7 +28,7 @@ triangle = codes "N 1\nN 1\nN 1\nV 6\nB 0 1 0 1\nB 2 3 1 2\nB 4 5 0 2\n"
 abbrev pub triangle_values : ℤ → List ℤ
 triangle_values x = pos 1 ∷ pos 3 ∷ pos 1 ∷ pos 4 ∷ neg_ℤ (pos 1) ∷ x ∷ []
 
--- a branch with both ends on one node
+-- a branch that ends where it begins
 abbrev pub loop : Bytes
 loop = codes "N 1\nV 2\nB 0 1 0 0\n"
 

@@ -14,7 +14,7 @@ same_domain None other = false
 same_domain (Some d) None = false
 same_domain (Some d) (Some e) = domain_number d == domain_number e
 
--- The domain of a node: node 0 is the first end, node 1 the second.
+-- The domain of a node. The ends are nodes 0 and 1.
 abbrev pub domain_at : Meaning → ℕ → Option Domain
 domain_at m node = slice_get (domains_of m) node
 

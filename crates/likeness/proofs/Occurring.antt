@@ -1,4 +1,4 @@
--- The nodes and variables that occur in two netlists that are alike.
+-- What two netlists that are alike name: the one names what the other does, under other numbers.
 use Rattle.std.proofs.Common.{ℕ}
 use Rattle.std.specs.List.{AllByRecursion, flat_map}
 use Rattle.netlist.specs.Netlist.{Netlist}

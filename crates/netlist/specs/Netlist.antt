@@ -7,7 +7,7 @@ use Rattle.netlist.specs.declared.terms.RawTerm.{RawTerm}
 use Rattle.netlist.specs.declared.terms.Term.{Term}
 
 -- The nodes' domains, how many variables there are, the rows, and the laws, each in the order in
--- which it was accepted: nodes, variables, rows and laws are numbered from 0 by their places here.
+-- which it was accepted. The number of a node, a variable, a row or a law is its place here, from 0.
 pub record Netlist : Type 0 where
   pub domains : List ℕ
   pub variables : ℕ

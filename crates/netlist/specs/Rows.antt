@@ -23,6 +23,6 @@ abbrev pub uses : List (Row ℕ) → ℕ → ℕ
 uses [] v = 0
 uses (row ∷ rows) v = hits row v + uses rows v
 
--- a variable is taken once a row has it
+-- some row has the variable
 abbrev pub taken_by : List (Row ℕ) → ℕ → Bool
 taken_by rows v = nat_lt 0 (uses rows v)

@@ -15,7 +15,8 @@ is_domain d = not (no_domain d)
 -- the row names nodes that are drawn, a branch two of one domain
 abbrev pub joins : List ℕ → Row ℕ → Bool
 joins domains (Branch flow across first second) =
-    nat_lt first (length domains) && (nat_lt second (length domains) && slice_index domains first == slice_index domains second)
+    nat_lt first (length domains)
+    && (nat_lt second (length domains) && slice_index domains first == slice_index domains second)
 joins domains (Earth flow across node) = nat_lt node (length domains)
 
 -- the term names one of the variables 0 to n - 1

@@ -92,7 +92,7 @@ pub record Solved {G : Type 0} (𝓖 : Group G) (R : Network G) (n k : ℕ) (p :
   pub grounded : Grounded 𝓖 R n k p
   pub only : (q : ℕ → G) → Satisfies 𝓖 R k q → Grounded 𝓖 R n k q → (v : ℕ) → v < n → q v ≡ p v
 
--- k is the lowest of the rows below m such that the rows up to it have a closed walk that does not add to zero
+-- of the first m rows, row k is the first with which some closed walk fails to come to zero
 abbrev pub Refuted : {G : Type 0} → Group G → Network G → ℕ → ℕ → Type 0
 Refuted 𝓖 R m k = First (λ j. WalksClose 𝓖 R (j + 1)) (λ j. SomeWalkFails 𝓖 R (j + 1)) m k
 

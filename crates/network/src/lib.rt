@@ -1,5 +1,5 @@
-//! The mathematics of readings, for every kind of quantity: walks along rows and potentials, and the net
-//! flow of a set of nodes. Each theorem is the contract of a function, which computes nothing.
+//! The mathematics of readings, for every kind of quantity: walks along rows, potentials, and what flows
+//! out of sets of nodes. Each theorem is the contract of a function, which computes nothing.
 #![tactic(auto)]
 
 ghost use Rattle.network.specs.Flows.{FlowIsExcess, SetsKeepAsNodes};
@@ -23,7 +23,7 @@ pub fn closing_has_potentials<K: Quantity>()
     ensures { ClosingHasPotentials K.Quantity.group }
 {}
 
-/// The net flow of a set of nodes is the sum of the excesses of its nodes.
+/// What flows out of a set is what flows out of its nodes one by one, added up.
 pub fn flow_is_excess<K: Quantity>()
     ensures { FlowIsExcess K.Quantity.group }
 {}

@@ -27,7 +27,7 @@ abbrev pub law_with : List PlanTerm → List (List PlanTerm)
 law_with [] = []
 law_with (t ∷ ts) = (t ∷ ts) ∷ []
 
--- one branch from end 0 to end 1, with flow variable 0 and across variable 1
+-- one branch from the first end to the second; variable 0 is its flow, variable 1 its across
 abbrev pub single_plan : Single → Plan
 single_plan s = record {
   ends = domain_at s.domain ∷ domain_at s.domain ∷ [];

@@ -8,8 +8,8 @@ use assembly::Assembly;
 use assembly::plans::{PlanRow, PlanTerm, Size};
 use netlist::domains::Domain;
 
-/// The branch has flow variable 0 and across variable 1. Its law gives a coefficient to the value and to
-/// the rate of each; a coefficient of zero is left out, and with four zeros there is no law. It is void
+/// Variable 0 is the flow of the branch, variable 1 its across. Its law gives a coefficient to the value and to
+/// the rate of each; a coefficient of zero is left out, and if all are there is no law. The assembly is void
 /// unless `domain` is the number of a domain, which both ends then have: a caller may write any number.
 #[derive(Clone, Copy)]
 pub struct Single {

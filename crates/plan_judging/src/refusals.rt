@@ -17,11 +17,11 @@ pub enum PlaceRefusal {
     NoNode { end: u8 },
     /// The node that an end is placed at has another domain than the end.
     Domain { end: u8 },
-    /// A row of the plan would be refused.
+    /// This row of the plan meets a refusal.
     Row { row: u16, inner: DraftRefusal },
-    /// A law of the plan would be refused.
+    /// This law of the plan meets a refusal.
     Law { law: u16, inner: DraftRefusal },
-    /// A limit of the draft would be passed.
+    /// A table of the draft would hold more than it may.
     Limit { table: Table },
 }
 

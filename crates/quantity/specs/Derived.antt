@@ -11,7 +11,9 @@ pub record Negations {K : Type 0} (𝓖 : Group K) : Type 0 where
 
 pub record Multiples {K : Type 0} (𝓖 : Group K) : Type 0 where
   -- nothing else begins at zero and grows by x with each step
-  pub only : (x : K) (f : ℤ → K) → f (pos 0) ≡ 𝓖.zero → ((c : ℤ) → f (c +ℤ pos 1) ≡ 𝓖.sum (f c) x) → (c : ℤ) → f c ≡ 𝓖.multiple c x
+  pub only :
+      (x : K) (f : ℤ → K) → f (pos 0) ≡ 𝓖.zero → ((c : ℤ) → f (c +ℤ pos 1) ≡ 𝓖.sum (f c) x)
+      → (c : ℤ) → f c ≡ 𝓖.multiple c x
   pub by_one : (x : K) → 𝓖.multiple (pos 1) x ≡ x
   pub by_minus_one : (x : K) → 𝓖.multiple (negsuc 0) x ≡ 𝓖.negation x
   pub by_sum : (c d : ℤ) (x : K) → 𝓖.multiple (c +ℤ d) x ≡ 𝓖.sum (𝓖.multiple c x) (𝓖.multiple d x)

@@ -23,8 +23,12 @@ module _ {P K L : Type 0} (Q : Pairing P K L) where
     negation = λ x. Q.make (G.negation (Q.left x)) (H.negation (Q.right x));
     multiple = λ c x. Q.make (G.multiple c (Q.left x)) (H.multiple c (Q.right x));
     associative = λ x y z. both
-        (ap (λ a. G.sum a (Q.left z)) (Q.left_of _ _) ∙ G.associative (Q.left x) (Q.left y) (Q.left z) ∙ ap (G.sum (Q.left x)) (sym (Q.left_of _ _)))
-        (ap (λ b. H.sum b (Q.right z)) (Q.right_of _ _) ∙ H.associative (Q.right x) (Q.right y) (Q.right z) ∙ ap (H.sum (Q.right x)) (sym (Q.right_of _ _)));
+        (ap (λ a. G.sum a (Q.left z)) (Q.left_of _ _)
+        ∙ G.associative (Q.left x) (Q.left y) (Q.left z)
+        ∙ ap (G.sum (Q.left x)) (sym (Q.left_of _ _)))
+        (ap (λ b. H.sum b (Q.right z)) (Q.right_of _ _)
+        ∙ H.associative (Q.right x) (Q.right y) (Q.right z)
+        ∙ ap (H.sum (Q.right x)) (sym (Q.right_of _ _)));
     commutative = λ x y. both (G.commutative (Q.left x) (Q.left y)) (H.commutative (Q.right x) (Q.right y));
     neutral = λ x. both
         (ap (λ a. G.sum a (Q.left x)) (Q.left_of _ _) ∙ G.neutral (Q.left x))

@@ -31,5 +31,6 @@ module _ {K : Type 0} (W : Wrapping K) where
     neutral = λ x. W.wrap_left (pos 0) (W.value x) ∙ ap W.of (integers.neutral (W.value x)) ∙ W.of_value x;
     inverse = λ x. wrap_right (W.value x) (neg_ℤ (W.value x)) ∙ ap W.of (integers.inverse (W.value x));
     multiple_none = λ x. ap W.of (integers.multiple_none (W.value x));
-    multiple_more = λ c x. ap W.of (integers.multiple_more c (W.value x)) ∙ sym (W.wrap_left (c *ℤ W.value x) (W.value x));
+    multiple_more = λ c x.
+        ap W.of (integers.multiple_more c (W.value x)) ∙ sym (W.wrap_left (c *ℤ W.value x) (W.value x));
   }

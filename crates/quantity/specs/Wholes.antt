@@ -17,7 +17,8 @@ whole z = record { value = int_wrap w64 z; held = (SFits-int_wrap w64 z).sfits }
 
 -- two whole numbers of one value are equal
 pub whole_same : (x y : Whole) → x.value ≡ y.value → x ≡ y
-whole_same x y e = λ i. record { value = e i; held = is_prop→PathP (λ j. mag (e j) < 2 ^ 63) (λ j. le_prop) x.held y.held i }
+whole_same x y e = λ i.
+    record { value = e i; held = is_prop→PathP (λ j. mag (e j) < 2 ^ 63) (λ j. le_prop) x.held y.held i }
 
 pub whole_fits : (x : Whole) → FitsSigned w64 x.value
 whole_fits x = record { sfits = x.held }
@@ -33,7 +34,8 @@ whole_wrapping = record {
 abbrev pub wholes : Group Whole
 wholes = residues whole_wrapping
 
--- THEOREM: an integer from -2^63 to 2^63 - 1 is held as it is, and integers that differ by a multiple of 2^64 are held alike
+-- THEOREM: an integer from -2^63 to 2^63 - 1 is held as it is, and integers that differ by a multiple of 2^64 are held
+-- alike
 pub record Modular : Type 0 where
   pub near : (z : ℤ) → mag z < 2 ^ 63 → (whole z).value ≡ z
   pub around : (z k : ℤ) → whole (z +ℤ k *ℤ pos (2 ^ 64)) ≡ whole z

@@ -2,7 +2,7 @@
 ghost use Rattle.std.specs.Prelude.{◌^◌, ◌<◌};
 ghost use Rattle.std.specs.Int.Signed.{mag};
 
-/// A whole number modulo 2^64, held signed.
+/// One of the 2^64 whole numbers from -2^63 to 2^63 - 1; what is computed goes round at the ends.
 #[derive(Clone, Copy, PartialEq, Eq, Debug)]
 pub struct Whole {
     pub value: i64,

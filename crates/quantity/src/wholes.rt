@@ -8,8 +8,9 @@ use super::kind::Quantity;
 use super::numbers::Whole;
 
 impl Whole {
-    /// The whole number of an integer. Every integer has one, the same for those that differ by a multiple of 2^64, and sums,
-    /// negations and multiples of integers go to those of their whole numbers. So only the end of a computation has to fit.
+    /// The whole number of an integer. Every integer has one, the same for those that differ by a multiple of 2^64,
+    /// and sums, negations and multiples of integers go to those of their whole numbers. So only the end of a
+    /// computation has to fit.
     pub fn new(value: i64) -> Whole
         ensures value { result.value ≡ value }
         ensures image { result ≡ whole value }

@@ -39,7 +39,8 @@ apart (suc zero) n e = let none : n ≡ 0 = omega arith in sym (ap (λ k. not (e
 apart (suc (suc m)) n e = absurd (omega arith)
 
 pub odd_next : (c : ℤ) → odd (c +ℤ pos 1) ≡ not (odd c)
-odd_next c = apart (nat_abs (c +ℤ pos 1) % 2) (nat_abs c % 2) (omega (arith, sum_is_lem c (pos 1), abs_is c, abs_is (c +ℤ pos 1)))
+odd_next c =
+    apart (nat_abs (c +ℤ pos 1) % 2) (nat_abs c % 2) (omega (arith, sum_is_lem c (pos 1), abs_is c, abs_is (c +ℤ pos 1)))
 
 pub one_more : (b a : Bool) → not b && a ≡ either (b && a) a
 one_more true true = refl

@@ -8,7 +8,7 @@ use quantity::Whole;
 use std::alloc::AllocError;
 use text::lines;
 
-/// Reads a value and a rate for each of so many variables, up to the first fault. What the lines before a fault
+/// Reads the values and rates of so many variables, up to the first fault. What the lines before a fault
 /// read stays. It fails for want of memory alone.
 pub fn read_readings(
     text: &[u8],

@@ -1,5 +1,5 @@
--- When a call is refused, what it answers, and what it leaves. Each call has a table: tests in their order, each with the
--- refusal that it leads to. R is what refuses.
+-- When a call is refused, what it answers, and what it leaves. Each call has a table: tests in their order, each with
+-- the refusal that it leads to. R is what refuses.
 use Rattle.std.specs.Prelude.{Bool, cond, List, [], ◌∷◌, Some, None, Ok, Err, Option, Result}
 
 abbrev pub Tests : Type 0 → Type 0

@@ -1,10 +1,10 @@
-//! Refusals. Each crate that refuses has an enum of its own cases. What is shared stands here: that users know a refusal
-//! by three numbers and a text, and that a call has a table of tests, each with the refusal that it leads to.
+//! Refusals. Each crate that refuses has an enum of its own cases. What is shared stands here: that users know a
+//! refusal by three numbers and a text, and that a call has a table of tests, each with the refusal that it leads to.
 #![tactic(auto)]
 
 ghost use Rattle.std.specs.Prelude.{◌≡◌, ℕ, Some};
 ghost use Rattle.std.specs.Fmt.{DisplaysOnOk};
-ghost use Rattle.refusal.specs.Text.{refusal_text};
+ghost use Rattle.refusal.specs.Text.{told_as};
 
 use std::fmt;
 
@@ -31,7 +31,7 @@ pub trait Refuses {
     /// Writes it as a user is told of it. An impl of `Display` is this call.
     fn tell<W: fmt::Write>(&self, f: &mut fmt::Formatter<W>) -> fmt::Result
     where
-        ensures { DisplaysOnOk W.write_str_gives f.old result (Some (refusal_text (number self.now) (place self.now) (cause self.now))) f.new }
+        ensures { DisplaysOnOk W.write_str_gives f.old result (Some (told_as number place cause self.now)) f.new }
     {
         let number = self.number();
         let place = self.place();

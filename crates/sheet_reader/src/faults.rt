@@ -14,7 +14,7 @@ use std::fmt;
 /// Why a text is not read to its end. Lines and columns are counted from 1.
 #[derive(Clone, Copy, PartialEq, Eq, Debug)]
 pub enum TextFault {
-    /// A line has no allowed form. The column is that of the first byte that no allowed line has there.
+    /// A line has no allowed form. The column is where it first differs from all that are allowed.
     Form { line: usize, column: usize },
     /// The text is longer than a sheet text may be.
     TooLong,

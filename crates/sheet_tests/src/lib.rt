@@ -27,7 +27,7 @@ mod tests {
         Ok(tables)
     }
 
-    // Nodes, variables, rows and laws are numbered from 0.
+    // What is added first has number 0.
     #[test]
     fn numbers_go_up(rt: HostRuntime) -> Result<(), Fail> {
         let mut tables = Tables::new(rt.alloc())?;

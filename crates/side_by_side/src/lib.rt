@@ -1,5 +1,5 @@
-//! Two assemblies side by side, between the same two ends. The layer's inner nodes, variables, rows and
-//! laws are the one part's, then the other's. It is void where a part is, where the domains of an end
+//! Two assemblies side by side, between the same two ends. All that the layer has is the one
+//! part's, and behind it the other's. It is void where a part is, where the domains of an end
 //! differ, and where it has too much.
 #![tactic(auto)]
 

@@ -10,7 +10,7 @@ use Rattle.spelling.specs.declared.symbols.Symbol.TheVariants.{Value, Rate, Pote
 use Rattle.spelling.specs.Symbols.{of_variable, symbol, letter, number}
 use Rattle.spelling.specs.Lines.{sign, term_text, rest_text, line_text}
 
--- the coefficient has at most k digits, and the number of the variable or node at most four
+-- the coefficient has at most k digits, and the number behind the letter at most four
 pub record Small (k : ℕ) (t : Term) : Type 0 where
   pub digits : length (decimal (unsigned_abs t.coefficient)) ≤ k
   pub few : t.variable < 10 ^ 4

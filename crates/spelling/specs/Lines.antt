@@ -1,8 +1,8 @@
 -- The line of an equation. An equation is a list of terms that add up to zero. On a sheet with V
--- variables, variable number V + n in a term means the potential of node n. Each term is a sign, + or
--- -, the size of the coefficient in decimal, then a letter v, r or p for value, rate or potential, then
--- in decimal the number of the variable or, after p, of the node; single blanks part the terms; then
--- " = 0" and a newline follow. An empty sum prints "0 = 0" and a newline. So with V = 2:
+-- variables, variable number V + n in a term means the potential of node n. A term is spelled by
+-- its coefficient, sign first, by a letter that tells value (v), rate (r) and potential (p) apart, and by the number
+-- of what has it, a variable or a node, in decimal. A blank stands between two terms. Behind the last one stand
+-- " = 0" and a newline, and a sum without terms is spelled "0". So with V = 2:
 --     +200v0 -1v1 = 0
 --     +1v1 -1p0 +1p1 = 0
 --     0 = 0

@@ -21,7 +21,7 @@ letter (Value v) = codes "v"
 letter (Rate v) = codes "r"
 letter (Potential n) = codes "p"
 
--- the number of the variable or, after p, of the node
+-- the number behind the letter
 abbrev pub number : Symbol → ℕ
 number (Value v) = v
 number (Rate v) = v

@@ -15,13 +15,13 @@ abbrev pub Digits : Bytes → Type 0
 Digits [] = Unit {0}
 Digits (b ∷ bs) = Digit b × Digits bs
 
--- one to seven digits
+-- digits, as many as a field may have
 pub record Plain (f : Bytes) : Type 0 where
   pub digits : Digits f
   pub some : 1 ≤ length f
   pub short : length f ≤ most_digits
 
--- a coefficient may have a minus in front
+-- in front of a coefficient a minus may stand
 abbrev pub Text : Kind → Bytes → Type 0
 Text Number f = Plain f
 Text Coefficient f = Plain f ⊎ ((g : Bytes) × (f ≡ 45 ∷ g) × Plain g)

@@ -12,7 +12,7 @@ lines_of text = cut 10 text
 abbrev pub OneLine : Bytes → Type 0
 OneLine bs = (k : ℕ) → k < length bs → slice_index bs k ≢ 10
 
--- the text is a line, its newline and the rest; the last newline may be absent
+-- the text is a line, its newline and the rest, or all of it is the last line
 pub record FirstLine (text line rest : Bytes) : Type 0 where
   pub whole : OneLine line
   pub parts : (text ≡ line ++ 10 ∷ rest) ⊎ ((text ≡ line) × (rest ≡ []) × (1 ≤ length line))

@@ -1,4 +1,4 @@
-//! The lines of a sheet text: each is a part of the caller's bytes, and is either of an allowed form or
+//! The lines of a sheet text, which borrow the bytes that hold them. Each is either of an allowed form or
 //! goes wrong at one exact column.
 #![tactic(auto)]
 

@@ -44,7 +44,7 @@ pub enum Line<'a> {
     Empty { line: usize },
 }
 
-/// The column, from 1, of the first byte that no allowed line has there.
+/// The column, from 1, at which the line first differs from all that are allowed.
 #[derive(Clone, Copy, Debug, PartialEq, Eq)]
 pub struct Fault {
     pub column: usize,

@@ -8,7 +8,7 @@ struct Faulty {
     printed: &'static [u8],
 }
 
-// A line of no allowed form. Its column is that of the first byte that no allowed line has there.
+// A line that is none of the allowed ones, told at the column where it first differs from all of them.
 const FORMS: [Faulty; 13] = [
     Faulty {
         text: b"B 0 1 0",

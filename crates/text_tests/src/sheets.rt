@@ -88,6 +88,9 @@ fn lines_of_faults(rt: HostRuntime) {
     assert_eq!(rt; write_fault(fault, &mut buffer), Ok(17));
     assert_eq!(rt; buffer, *b"fault 1 8 11 0 0\nx");
     let mut short = [b'x'; 16];
-    assert_eq!(rt; write_fault(fault, &mut short), Err(WriteRefusal::ShortBuffer));
+    assert_eq!(rt;
+        write_fault(fault, &mut short),
+        Err(WriteRefusal::ShortBuffer)
+    );
     assert_eq!(rt; short, [b'x'; 16]);
 }

@@ -29,7 +29,7 @@ module _ {G : Type 0} (𝓖 : Group G) (R : Network G) (k : ℕ) (labels : List 
     head_label : label b ≡ label (R.head k)
     head_label = ap label head
 
-    -- a row inside a part fits, or closes a walk that does not add to zero
+    -- a row inside a part fits, or closes a walk that comes to something else than zero
     pub row_tells : label a ≡ label b → (fits : Bool) → Decides fits (x ≡ 𝓖.zero) → MatchBool fits (SettledBy 𝓖 R (k + 1) labels potentials) (SomeWalkFails 𝓖 R (k + 1))
     row_tells same fits decides =
         let ends = within k (omega arith) in

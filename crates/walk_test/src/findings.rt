@@ -5,7 +5,7 @@
 pub enum Finding {
     /// Every closed walk adds up to zero.
     WalksClose,
-    /// The lowest row such that the rows up to it have a closed walk that does not add up to zero.
+    /// The first row with which some closed walk fails to come to zero.
     SomeWalkFails { row: usize },
 }
 

@@ -42,7 +42,7 @@ impl Draft {
         })
     }
 
-    /// Draws `count` variables, and answers the number of the first. Refused is what passes the limit.
+    /// Draws `count` variables, and answers how many there were: the first new one has that number. Refused is what passes the limit.
     pub fn variables(&mut self, count: usize) -> Result<usize, DraftRefusal>
         ensures answer { result ≡ answer_variables self.old count }
         ensures netlist { self.new ≡ after_variables self.old count }

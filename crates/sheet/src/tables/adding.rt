@@ -40,7 +40,7 @@ impl Tables {
         Some(node)
     }
 
-    /// Draws `count` variables and answers the number of the first, if there is room. Else nothing changes.
+    /// Draws `count` variables, if there is room, and answers how many there were: the first new one has that number. Else nothing changes.
     pub fn add_variables(&mut self, count: usize) -> Option<usize>
         ensures answer { result ≡ number_if (variables_fit self.old count) self.old.variables }
         ensures netlist { self.new ≡ left_if (variables_fit self.old count) self.old (with_variables self.old count) }
