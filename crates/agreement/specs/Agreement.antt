@@ -20,6 +20,13 @@ use Rattle.checking.specs.Checked.{judge_check, Checked}
 use Rattle.agreement.specs.declared.accepting.Acceptance.{Acceptance}
 use Rattle.agreement.specs.declared.accepting.Buffers.{Buffers}
 
+-- they are the same buffers, whatever is in them
+abbrev pub SameBuffers : {G : Type 0} → Buffers G → Buffers G → Type 0
+SameBuffers old new =
+    (new.terms.ghost_name ≡ old.terms.ghost_name)
+    × (new.spans.ghost_name ≡ old.spans.ghost_name)
+    × (new.potentials.ghost_name ≡ old.potentials.ghost_name)
+
 -- whether a buffer is too short for the equations of the netlist
 abbrev pub judge_buffers : {G : Type 0} → Netlist → Buffers G → Option EquationRefusal
 judge_buffers b buffers = judge_equations b (length buffers.terms.now) (length buffers.spans.now)

@@ -1,7 +1,7 @@
 //! A draft is accepted: its equations are listed, and readings of it are checked.
 ghost use Rattle.reading_sums.specs.Given.{given};
 ghost use Rattle.calls.specs.Calls.{entered};
-ghost use Rattle.agreement.specs.Agreement.{Agreement};
+ghost use Rattle.agreement.specs.Agreement.{Agreement, SameBuffers};
 
 use assembly::Assembly;
 use calls::{Call, run};
@@ -45,6 +45,7 @@ pub fn accept<K: Quantity, A: Assembly>(
 ) -> Acceptance
     ensures agreement { Agreement K.group (entered A.Assembly.meaning draft calls.now) (given readings.entry)
         buffers.old buffers.new result }
+    ensures same { SameBuffers buffers.old buffers.new }
 {
     run(&mut draft, calls);
     let sheet = draft.issue();

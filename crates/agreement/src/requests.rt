@@ -1,6 +1,6 @@
 //! Two drafts are accepted, which may be of one plant.
 ghost use Rattle.reading_sums.specs.Given.{given};
-ghost use Rattle.agreement.specs.Agreement.{Agreement, BothOrNeither};
+ghost use Rattle.agreement.specs.Agreement.{Agreement, BothOrNeither, SameBuffers};
 ghost use Rattle.agreement.specs.Requests.{requested};
 
 use crate::accepting::{Acceptance, Buffers, accept};
@@ -31,8 +31,10 @@ pub fn accept_both<K: Quantity, A: Assembly, B: Assembly>(
 ) -> (Acceptance, Acceptance)
     ensures first { Agreement K.group (requested A.Assembly.meaning draft first.entry) (given first.entry.readings)
         first.entry.buffers.now first.exit.0.now result.0 }
+    ensures first_same { SameBuffers first.entry.buffers.now first.exit.0.now }
     ensures second { Agreement K.group (requested B.Assembly.meaning other_draft second.entry)
         (given second.entry.readings) second.entry.buffers.now second.exit.0.now result.1 }
+    ensures second_same { SameBuffers second.entry.buffers.now second.exit.0.now }
     ensures together { BothOrNeither K.group
         (requested A.Assembly.meaning draft first.entry) (given first.entry.readings) result.0
         (requested B.Assembly.meaning other_draft second.entry) (given second.entry.readings) result.1 }

@@ -25,8 +25,8 @@ fn print_draft(
     potentials: &mut [Whole],
     out: &mut Vec<u8>,
 ) -> Result<Verdict, AllocError>
-    requires values { length readings.entry.values.now ≡ draft.variables }
-    requires rates { length readings.entry.rates.now ≡ draft.variables }
+    requires values { length readings.values.now ≡ draft.variables }
+    requires rates { length readings.rates.now ≡ draft.variables }
     requires potentials { length potentials.old ≡ length draft.domains }
     ensures { IfOk result (λ verdict. Accepted draft (given readings.entry) verdict potentials.new
         out.old.items out.new.items) }
@@ -35,11 +35,11 @@ fn print_draft(
     let mut buffers = Buffers {
         terms: &mut [],
         spans: &mut [],
-        potentials,
+        potentials: &mut *potentials,
     };
     let accepted = accept::<Whole, Single>(draft, &[], readings, &mut buffers, &mut workspace);
     let verdict = accepted.checked.unwrap();
-    print_accepted(heap, &accepted.sheet, verdict, buffers.potentials, out)?;
+    print_accepted(heap, &accepted.sheet, verdict, potentials, out)?;
     Ok(verdict)
 }
 

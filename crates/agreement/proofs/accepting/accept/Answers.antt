@@ -1,4 +1,4 @@
-use Rattle.std.proofs.Common.{◌∙◌}
+use Rattle.std.proofs.Common.{refl, ◌∙◌}
 use Rattle.reading_sums.specs.Given.{given}
 use Rattle.agreement.proofs.Parts.{accepted}
 use Rattle.agreement.proofs.accepting.accept.Goals as goal
@@ -13,4 +13,5 @@ returns g c =
           _
           (c.issue-sheet.ensures.netlist ∙ c.run.ensures)
           c.issue-sheet.ensures.sound listed.answer listed.terms listed.spans listed.placed c.check-checked.ensures.checked;
+      same = (refl, refl, refl);
     }

@@ -1,6 +1,6 @@
-use Rattle.std.proofs.Common.{◌≡◌, ℕ, length, List, [], sym, subst, ap, ◌∙◌, Ok}
+use Rattle.std.proofs.Common.{length, List, [], ap, ◌∙◌, Ok, Err, refl}
 use Rattle.quantity.specs.declared.numbers.Whole.{Whole}
-use Rattle.readings_text.specs.Readings.{ReadsReadings, ReadingsAnswer}
+use Rattle.readings_text.specs.Readings.{ReadsReadings}
 use Rattle.answering.proofs.Fitting.{readings_fit}
 use Rattle.answering.proofs.answers.answer.Goals as goal
 
@@ -28,4 +28,15 @@ returns c =
       c.print_draft.new.potentials,
       record { drawn = rw c.in_ok-draft.ensures at c.in_default.ensures.reads; read = read },
       rw (c.as_slice.ensures.value, c.as_slice-2.ensures.value) at c.in_ok-verdict.ensures,
+    )
+
+pub returns-in-Err-2 : goal.returns-in-Err-2
+returns-in-Err-2 c =
+    let told : ReadsReadings c.args.readings_text.now c.read.new.draft.variables (Err c.in-Err-2.fault) [] [] c.read_readings.new.values.items c.read_readings.new.rates.items =
+    rw (c.new-values.ensures.items, c.new-rates.ensures.items, ap (λ n. n.variables) c.counts-wanted.ensures.value, c.in-Err-2.is) at c.in_ok-fault.ensures in (
+      c.read.new.draft,
+      record { values = c.read_readings.new.values.items; rates = c.read_readings.new.rates.items },
+      rw c.in_ok-draft.ensures at c.in_default.ensures.reads,
+      told,
+      refl,
     )

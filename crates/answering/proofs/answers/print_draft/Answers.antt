@@ -1,4 +1,4 @@
-use Rattle.std.proofs.Common.{◌≡◌, length, None}
+use Rattle.std.proofs.Common.{◌≡◌, length, None, rules}
 use Rattle.quantity.specs.Wholes.{wholes}
 use Rattle.reading_sums.specs.Given.{given}
 use Rattle.checking.specs.Checked.{judge_check}
@@ -16,4 +16,5 @@ pub returns : goal.returns
 returns c =
     let agreed = c.accept-accepted.ensures.agreement in
     let told = rw c.unwrap-verdict.ensures at agreed.verdict.checked in
-    record { is = told.2; filled = told.3; printed = rw agreed.sheet at c.in_ok-print_accepted.ensures }
+    let filled = told.3 in
+    record { is = told.2; filled = search rules; printed = rw agreed.sheet at c.in_ok-print_accepted.ensures }
