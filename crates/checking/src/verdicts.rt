@@ -1,5 +1,6 @@
 //! What a check says of readings.
 
+/// What a check says of readings. A law that fails is told before a node, and a node before a row.
 #[derive(Clone, Copy, PartialEq, Eq, Debug)]
 pub enum Verdict {
     /// They agree with the sheet.

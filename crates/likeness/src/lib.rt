@@ -14,7 +14,7 @@ pub fn alike_turns()
     ensures onward { AlikeOnward }
 {}
 
-/// So it is with readings that are read alike.
+/// Readings are read alike as they are, the other way, and on from one netlist to a third.
 pub fn readings_turn<K: Quantity>()
     ensures itself { ReadItself K.Quantity.group }
     ensures back { ReadBack K.Quantity.group }

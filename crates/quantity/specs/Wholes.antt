@@ -42,4 +42,5 @@ pub record Modular : Type 0 where
 
 -- THEOREM: the sum of integers is exact if it is from -2^63 to 2^63 - 1, even where a sum on the way is not
 abbrev pub ExactTotals : Type 0
-ExactTotals = (zs : List ℤ) → mag (total integers zs) < 2 ^ 63 → (total wholes (map whole zs)).value ≡ total integers zs
+ExactTotals =
+    (zs : List ℤ) → mag (total integers zs) < 2 ^ 63 → (total wholes (map whole zs)).value ≡ total integers zs

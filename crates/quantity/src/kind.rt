@@ -7,15 +7,19 @@ pub trait Quantity: Copy {
     // The operations and, in the same record, the proof of each law: an `impl` owes them of every value of the type.
     ghost group: { Group Self };
 
+    /// What changes nothing in a sum.
     fn zero() -> Self
         ensures { result ≡ group.zero };
 
+    /// The two together.
     fn sum(self, other: Self) -> Self
         ensures { result ≡ group.sum self other };
 
+    /// What makes the quantity zero when it is added.
     fn negation(self) -> Self
         ensures { result ≡ group.negation self };
 
+    /// The quantity so many times, where less than no times is of its negation.
     fn multiple(self, coefficient: i32) -> Self
         ensures { result ≡ group.multiple coefficient self };
 

@@ -11,6 +11,7 @@ use quantity::Quantity;
 pub trait Across<K> {
     ghost reading: { Self → ℕ → Row ℕ → K };
 
+    /// The reading of row `k`, which is `row`.
     fn reading(&self, k: usize, row: Row) -> K
         ensures { result ≡ reading self.now k row };
 }
@@ -19,6 +20,7 @@ pub trait Across<K> {
 /// reads zero.
 #[derive(Clone, Copy)]
 pub struct ByVariable<'a, K> {
+    /// The value of each variable, by its number.
     pub values: &'a [K],
 }
 

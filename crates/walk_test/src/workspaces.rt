@@ -23,6 +23,7 @@ impl Model for Workspace {
 }
 
 impl Workspace {
+    /// Room for the largest sheet, which every later test is run in.
     pub fn new(heap: Global) -> Result<Workspace, AllocError> {
         Ok(Workspace {
             labels: vec![in heap; 0; MAX_NODES + 1]?,
