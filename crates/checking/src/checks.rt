@@ -32,7 +32,7 @@ pub fn check<K: Quantity>(
     if let Some(law) = first_law(sheet, readings) {
         return Ok(Verdict::Law { law });
     }
-    if let Some(node) = first_node(sheet, readings.values) {
+    if let Some(node) = first_node(sheet, readings.values, potentials) {
         return Ok(Verdict::Node { node });
     }
     let across = ByVariable {

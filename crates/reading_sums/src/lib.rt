@@ -3,10 +3,12 @@
 
 mod flows;
 mod laws;
+mod listing;
 mod lookup;
 mod readings;
 
 pub use flows::{net_flow, node_excess};
 pub use laws::{law_sum, value_or_rate};
+pub use listing::put_excesses;
 pub use lookup::reading;
 pub use readings::Readings;

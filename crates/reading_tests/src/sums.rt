@@ -2,7 +2,9 @@
 use netlist::rows::Row;
 use netlist::terms::{Order, Term};
 use quantity::{Phasor, Quantity, Whole};
-use reading_sums::{Readings, law_sum, net_flow, node_excess, reading, value_or_rate};
+use reading_sums::{
+    Readings, law_sum, net_flow, node_excess, put_excesses, reading, value_or_rate,
+};
 use readings::equation_sum;
 
 // From node 0 to node 1, from there to node 2, from node 2 to the earth, and from node 1 to itself.
@@ -80,6 +82,22 @@ fn excess_of_each_node(rt: HostRuntime) {
     assert_eq!(rt; node_excess(&rows, &values, 1).value, -2);
     assert_eq!(rt; node_excess(&rows, &values, 2).value, -1);
     assert_eq!(rt; node_excess(&rows, &values, 3).value, 0);
+}
+
+// What the list held is of no matter, and a node past it is left out.
+#[test]
+fn excesses_of_all_nodes(rt: HostRuntime) {
+    let rows = rows();
+    let values = values();
+    let nine = Whole::new(9);
+    let mut sums = [nine; 4];
+    put_excesses(&rows, &values, &mut sums[..2]);
+    assert_eq!(rt; sums, [Whole::new(5), Whole::new(-2), nine, nine]);
+    put_excesses(&rows, &values, &mut sums);
+    let excesses = [Whole::new(5), Whole::new(-2), Whole::new(-1), Whole::new(0)];
+    assert_eq!(rt; sums, excesses);
+    put_excesses(&rows, &values, &mut sums[..0]);
+    assert_eq!(rt; sums, excesses);
 }
 
 #[test]

@@ -8,17 +8,17 @@ pub unwrap-requires : goal.unwrap-requires
 unwrap-requires g c =
     let a = c.args in
     let b = a.sheet.now in
-    let count = c.clear.auto.potentials ∙ one_each b (given a.readings) (length a.potentials.now) c.in_ok-judge_counts.ensures in
-    walks_begin b c.rows-rows.ensures.sound g.K.Quantity.group c.rows-rows.result.now _ c.clear.new.potentials _ c.test_walks.result c.rows-rows.ensures.value count c.test_walks.ensures
+    let count = c.first_node.auto.sums ∙ c.clear.auto.potentials ∙ one_each b (given a.readings) (length a.potentials.now) c.in_ok-judge_counts.ensures in
+    walks_begin b c.rows-rows.ensures.sound g.K.Quantity.group c.rows-rows.result.now _ c.first_node.new.sums _ c.test_walks.result c.rows-rows.ensures.value count c.test_walks.ensures
 
 pub returns-in-WalksClose-clause-checked : goal.returns-in-WalksClose-clause-checked
 returns-in-WalksClose-clause-checked g c =
     let a = c.args in
-    agree g.K.Quantity.group a.sheet.now c.rows-rows.ensures.sound (given a.readings) a.potentials.now c.clear.new.potentials c.test_walks.new.potentials c.in_ok-judge_counts.ensures c.clear.auto.potentials
-    c.in_default.ensures c.in_default-first_node.ensures c.rows-rows.result.now c.rows-rows.ensures.value c.test_walks.result c.test_walks.ensures (c.unwrap.ensures ∙ ap (λ f. Ok f) c.in-WalksClose.is)
+    agree g.K.Quantity.group a.sheet.now c.rows-rows.ensures.sound (given a.readings) a.potentials.now c.first_node.new.sums c.test_walks.new.potentials c.in_ok-judge_counts.ensures (c.first_node.auto.sums ∙ c.clear.auto.potentials)
+    c.in_default.ensures c.in_default-first_node.ensures.found c.rows-rows.result.now c.rows-rows.ensures.value c.test_walks.result c.test_walks.ensures (c.unwrap.ensures ∙ ap (λ f. Ok f) c.in-WalksClose.is)
 
 pub returns-in-SomeWalkFails-clause-checked : goal.returns-in-SomeWalkFails-clause-checked
 returns-in-SomeWalkFails-clause-checked g c =
     let a = c.args in
-    row_fails g.K.Quantity.group a.sheet.now c.rows-rows.ensures.sound (given a.readings) a.potentials.now c.clear.new.potentials c.test_walks.new.potentials c.in_ok-judge_counts.ensures c.clear.auto.potentials
-    c.in_default.ensures c.in_default-first_node.ensures c.rows-rows.result.now c.rows-rows.ensures.value c.test_walks.result c.test_walks.ensures c.in-SomeWalkFails.row (c.unwrap.ensures ∙ ap (λ f. Ok f) c.in-SomeWalkFails.is)
+    row_fails g.K.Quantity.group a.sheet.now c.rows-rows.ensures.sound (given a.readings) a.potentials.now c.first_node.new.sums c.test_walks.new.potentials c.in_ok-judge_counts.ensures (c.first_node.auto.sums ∙ c.clear.auto.potentials)
+    c.in_default.ensures c.in_default-first_node.ensures.found c.rows-rows.result.now c.rows-rows.ensures.value c.test_walks.result c.test_walks.ensures c.in-SomeWalkFails.row (c.unwrap.ensures ∙ ap (λ f. Ok f) c.in-SomeWalkFails.is)
