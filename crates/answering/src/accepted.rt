@@ -20,7 +20,7 @@ pub fn print_accepted(
 ) -> Result<(), AllocError>
     ensures { OnOk result (out.new.items ≡ out.old.items ++ accepted_text sheet.now verdict potentials.now) }
 {
-    print_sheet(sheet, out)?;
+    print_sheet(heap, sheet, out)?;
     print_verdict(heap, verdict, out)?;
     match verdict {
         Verdict::Holds => print_potentials(heap, potentials, out),

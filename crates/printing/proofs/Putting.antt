@@ -5,14 +5,10 @@ use Rattle.std.proofs.lemmas.Bool.Decides.{nat_tests}
 use Rattle.std.proofs.lemmas.Fmt.{length-decimal-le}
 use Rattle.std.proofs.lemmas.List.{length-append}
 use Rattle.netlist.specs.Buffers.{filled}
-use Rattle.netlist.specs.Netlist.{Netlist}
 use Rattle.refusal.specs.Tests.{answer}
 use Rattle.spelling.specs.declared.refusals.WriteRefusal.{WriteRefusal}
 use Rattle.spelling.specs.Headers.{header_text}
 use Rattle.spelling.specs.Rules.{judge_text, answer_text, printed}
-use Rattle.equation.specs.declared.refusals.EquationRefusal.{EquationRefusal}
-use Rattle.equation.specs.Equations.{equations_of}
-use Rattle.equation.specs.Printing.{line_of, line_bytes, judge_line, answer_line, left_line, LineFits}
 
 -- the text was printed: so many bytes of the buffer are the text
 pub record Front {R : Type 0} (text : List ℕ) (r : Result ℕ R) (new : List ℕ) : Type 0 where
@@ -28,16 +24,8 @@ front {R} old text new r judged j a f = record {
 text_passes : (old text : List ℕ) → length text ≤ length old → judge_text old text ≡ None
 text_passes old text h = grind (arith, nat_tests)
 
-line_passes : (b : Netlist) (k : ℕ) (old : List ℕ) → k < length (equations_of b) → length (line_of b k) ≤ length old → judge_line b k old ≡ None
-line_passes b k old h h' = grind (arith, nat_tests)
-
 pub text_front : (text old new : List ℕ) (r : Result ℕ WriteRefusal) → length text ≤ length old → r ≡ answer_text old text → new ≡ printed old text → Front text r new
 text_front text old new r h a f = front old text new r (judge_text old text) (text_passes old text h) a f
-
-pub line_front : (b : Netlist) (k : ℕ) (old new : List ℕ) (r : Result ℕ EquationRefusal) → LineFits b k → line_bytes ≤ length old → k < length (equations_of b) → r ≡ answer_line b k old → new ≡ left_line b k old → Front (line_of b k) r new
-line_front b k old new r fits room h a f =
-    let short = fits h in
-    front old (line_of b k) new r (judge_line b k old) (line_passes b k old h (omega arith)) a f
 
 pub header_short : (n : ℕ) → n < 2 ^ 64 → length (header_text n) ≤ 31
 header_short n h =

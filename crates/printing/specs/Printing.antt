@@ -9,9 +9,13 @@ use Rattle.equation.specs.Equations.{equations_of}
 use Rattle.sheet_reader.specs.Faults.{fault_line}
 use Rattle.sheet_reader.specs.Reading.{TextAnswer, ReadsText}
 
+-- the line of each equation
+abbrev pub lines_text : Netlist → Bytes
+lines_text b = flat_map (line_text b.variables) (equations_of b)
+
 -- how many equations there are, and the line of each
 abbrev pub sheet_text : Netlist → Bytes
-sheet_text b = header_text (length (equations_of b)) ++ flat_map (line_text b.variables) (equations_of b)
+sheet_text b = header_text (length (equations_of b)) ++ lines_text b
 
 -- what is printed once a text is read with this answer and leaves this netlist
 abbrev pub printed : TextAnswer → Netlist → Bytes

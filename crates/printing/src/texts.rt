@@ -20,10 +20,10 @@ pub fn print_fault(fault: TextFault, out: &mut Vec<u8>) -> Result<(), AllocError
 }
 
 // Prints what has been drawn.
-fn print_draft(draft: Draft, out: &mut Vec<u8>) -> Result<(), AllocError>
+fn print_draft(heap: Global, draft: Draft, out: &mut Vec<u8>) -> Result<(), AllocError>
     ensures { OnOk result (out.new.items ≡ out.old.items ++ sheet_text draft) }
 {
-    print_sheet(&draft.issue(), out)
+    print_sheet(heap, &draft.issue(), out)
 }
 
 /// Reads the text, prints what it comes to, and answers whether it was read to its end. It fails for want of
@@ -38,7 +38,7 @@ pub fn print_text(
     let mut draft = Draft::new(heap)?;
     let answer = read(text, &mut draft);
     match answer {
-        Ok(()) => print_draft(draft, out)?,
+        Ok(()) => print_draft(heap, draft, out)?,
         Err(fault) => print_fault(fault, out)?,
     }
     Ok(answer)
