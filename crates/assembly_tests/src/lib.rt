@@ -10,3 +10,5 @@ mod layered;
 mod placing;
 #[cfg(test)]
 mod small_plans;
+#[cfg(test)]
+mod trees;
