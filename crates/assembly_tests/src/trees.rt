@@ -1,6 +1,6 @@
 //! Trees of layers, and layers in many levels.
 use assembly::Assembly;
-use assembly::plans::{PlanRow, Size};
+use assembly::plans::{PlanRow, PlanTerm, Size};
 use draft::{Draft, Table};
 use netlist::domains::Domain;
 use netlist::spans::Span;
@@ -11,8 +11,8 @@ use place::place;
 use plan_judging::PlaceRefusal;
 use repeat::Repeat;
 use series::Series;
-use side_by_side::SideBySide;
 use sheet::Counts;
+use side_by_side::SideBySide;
 use std::alloc::{AllocError, Global};
 use std::test::Fail;
 use tree::Tree;
@@ -54,22 +54,23 @@ fn shafts(copies: usize) -> Option<Size> {
     })
 }
 
+// So many levels of two copies each.
+fn doubled(heap: Global, levels: u32) -> Result<Tree<'static>, AllocError> {
+    let mut tree = Tree::single(SHAFT);
+    for _ in 0..levels {
+        tree = Tree::repeat(heap, tree, 2)?;
+    }
+    Ok(tree)
+}
+
 // Nine levels are 512 shafts, and ten are 1,024, more than a sheet has nodes for.
 #[test]
 fn ten_levels_of_two(rt: HostRuntime) -> Result<(), Fail> {
-    let one = Repeat::new(SHAFT, 2);
-    let two = Repeat::new(&one, 2);
-    let three = Repeat::new(&two, 2);
-    let four = Repeat::new(&three, 2);
-    let five = Repeat::new(&four, 2);
-    let six = Repeat::new(&five, 2);
-    let seven = Repeat::new(&six, 2);
-    let eight = Repeat::new(&seven, 2);
-    let nine = Repeat::new(&eight, 2);
-    let ten = Repeat::new(&nine, 2);
+    let ten = doubled(rt.alloc(), 10)?;
     assert_eq!(rt; ten.size(), shafts(1024));
-    assert!(rt; (0..1024).all(|k| ten.row(k).is_some() && ten.law_len(k) == Some(2)));
+    assert_eq!(rt; ten.law_len(1023), Some(2));
     assert_eq!(rt; ten.row(1024), None);
+    let nine = doubled(rt.alloc(), 9)?;
     let mut draft = Draft::new(rt.alloc())?;
     draft.node(2)?;
     let table = Table::Nodes;
@@ -88,6 +89,18 @@ fn ten_levels_of_two(rt: HostRuntime) -> Result<(), Fail> {
         }
     );
     Ok(())
+}
+
+// The same levels, each a type of its own.
+#[test]
+fn ten_levels_of_types(rt: HostRuntime) {
+    let three = Repeat::new(Repeat::new(Repeat::new(SHAFT, 2), 2), 2);
+    let six = Repeat::new(Repeat::new(Repeat::new(three, 2), 2), 2);
+    let nine = Repeat::new(Repeat::new(Repeat::new(six, 2), 2), 2);
+    let ten = Repeat::new(nine, 2);
+    assert_eq!(rt; ten.size(), shafts(1024));
+    assert_eq!(rt; ten.law_len(1023), Some(2));
+    assert_eq!(rt; ten.row(1024), None);
 }
 
 // So many levels, by turns in series and side by side, over two shafts each.
@@ -166,7 +179,11 @@ fn tree_as_layers(rt: HostRuntime) -> Result<(), Fail> {
             offset: 0,
             length: 1,
         }],
-        terms: &[assembly::plans::PlanTerm::rate(5, 1)],
+        terms: &[PlanTerm {
+            coefficient: 5,
+            order: 1,
+            variable: 1,
+        }],
     });
     let heap = rt.alloc();
     let chain = Repeat::new(SHAFT, 3);
