@@ -1,7 +1,6 @@
 -- What is found of small whole numbers is found of the integers.
-use Rattle.std.proofs.Common.{◌≡◌, ℕ, zero, suc, ◌+◌, List, [], ◌∷◌, length, replicate, pos, Result, Ok, Err, sym, refl, ap, ap₂, ◌∙◌, subst, arith}
+use Rattle.std.proofs.Common.{◌≡◌, ℕ, zero, suc, ◌+◌, List, [], ◌∷◌, length, replicate, pos, sym, refl, ap, ap₂, ◌∙◌, subst, arith}
 use Rattle.std.proofs.lemmas.List.{length-map}
-use Rattle.std.specs.Result.{IfOk}
 use Rattle.quantity.specs.Integers.{integers}
 use Rattle.quantity.specs.Wholes.{wholes}
 use Rattle.quantity.specs.declared.numbers.Whole.{Whole}
@@ -19,11 +18,9 @@ use Rattle.small_readings.specs.Small.{AreSmall}
 use Rattle.small_readings.specs.Exact.{values_of, integers_of, over_integers, Exact}
 use Rattle.small_readings.proofs.Bounds.{held_as_is}
 use Rattle.small_readings.proofs.Exactness.{small_is_exact}
-use Rattle.checking.specs.declared.refusals.CheckRefusal.{CheckRefusal}
 use Rattle.checking.specs.declared.verdicts.Verdict.{Verdict}
 use Rattle.checking.specs.declared.verdicts.Verdict.TheVariants.{Holds, Law, Node, Row}
-use Rattle.checking.specs.Checked.{Checked}
-use Rattle.checking.specs.Integers.{JudgesIntegers}
+use Rattle.checking.specs.Integers.{ExactVerdicts, JudgesIntegers}
 use Rattle.checking.specs.Potentials.{Filling, Filled}
 use Rattle.checking.specs.Verdicts.{VerdictIs}
 use Rattle.checking.proofs.Filling.{filling, solved}
@@ -74,6 +71,5 @@ module _ (b : Netlist) (sound : Sound b) (r : Readings Whole) (small_values : Ar
   judges ps (Node n) is filled = ((laws _ is.0, (exact.first_node _ n).0 is.1), all_zero ps filled)
   judges ps (Row k) is filled = ((laws _ is.0, nodes _ is.1, (exact.refuted k).0 is.2), all_zero ps filled)
 
-  pub judges_checked : (old new : List Whole) (answer : Result Verdict CheckRefusal) → Checked wholes b r old new answer → IfOk answer (JudgesIntegers b r new)
-  judges_checked old new (Ok verdict) checked = judges new verdict checked.2 checked.3
-  judges_checked old new (Err why) checked = tt
+pub exact_verdicts : ExactVerdicts
+exact_verdicts b sound r small_values small_rates verdict ps = judges b sound r small_values small_rates ps verdict

@@ -6,9 +6,7 @@ mod counts;
 mod refusals;
 mod searching;
 mod verdicts;
-mod wholes;
 
 pub use checks::{check, one_verdict};
 pub use refusals::CheckRefusal;
 pub use verdicts::Verdict;
-pub use wholes::check_whole;

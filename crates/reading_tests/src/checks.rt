@@ -1,6 +1,6 @@
 //! What the check says of them.
 use super::sheets::{drive, rate, ring, triangle};
-use checking::{CheckRefusal, Verdict, check, check_whole, one_verdict};
+use checking::{CheckRefusal, Verdict, check, one_verdict};
 use draft::Draft;
 use quantity::{Phasor, Quantity, Whole};
 use reading_sums::Readings;
@@ -51,17 +51,54 @@ fn triangle_is_open(rt: HostRuntime) -> Result<(), Fail> {
     let mut workspace = Workspace::new(rt.alloc())?;
     let rates = [Whole::new(0); 6];
     let mut potentials = [Whole::new(5); 3];
-    let verdict = check_whole(
+    let verdict = judged(
         &sheet,
-        Readings {
-            values: &round(3, 4, 8),
-            rates: &rates,
-        },
+        &round(3, 4, 8),
+        &rates,
         &mut potentials,
         &mut workspace,
     );
     assert_eq!(rt; verdict, Ok(Verdict::Row { row: 2 }));
     assert_eq!(rt; potentials, [Whole::new(0); 3]);
+    Ok(())
+}
+
+// Small readings are judged as integers are. Of others a sum may wrap to zero.
+#[test]
+fn small_readings_are_exact(rt: HostRuntime) -> Result<(), Fail> {
+    let sheet = triangle(rt.alloc())?;
+    let mut workspace = Workspace::new(rt.alloc())?;
+    let rates = [Whole::new(0); 6];
+    let mut potentials = [Whole::new(5); 3];
+    let most = 1 << 40;
+    let verdict = judged(
+        &sheet,
+        &round(most, -most, 0),
+        &rates,
+        &mut potentials,
+        &mut workspace,
+    );
+    assert_eq!(rt; verdict, Ok(Verdict::Holds));
+    assert_eq!(rt;
+        potentials,
+        [Whole::new(0), Whole::new(-most), Whole::new(0)]
+    );
+    let verdict = judged(
+        &sheet,
+        &round(most, most, -most),
+        &rates,
+        &mut potentials,
+        &mut workspace,
+    );
+    assert_eq!(rt; verdict, Ok(Verdict::Row { row: 2 }));
+    let verdict = judged(
+        &sheet,
+        &round(i64::MAX, 1, i64::MIN),
+        &rates,
+        &mut potentials,
+        &mut workspace,
+    );
+    assert_eq!(rt; verdict, Ok(Verdict::Holds));
     Ok(())
 }
 
@@ -182,12 +219,10 @@ fn wrong_counts_are_refused(rt: HostRuntime) -> Result<(), Fail> {
         &mut workspace,
     );
     assert_eq!(rt; refused, Err(why));
-    let refused = check_whole(
+    let refused = judged(
         &sheet,
-        Readings {
-            values: &readings[..4],
-            rates: &readings[..4],
-        },
+        &readings[..4],
+        &readings[..4],
         &mut potentials[..1],
         &mut workspace,
     );
