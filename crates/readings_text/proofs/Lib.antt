@@ -1,5 +1,6 @@
 pub mod Magnitudes
 pub mod Writing
 pub mod Splitting
+pub mod Pairs
 pub mod Gathering
 pub mod Counts

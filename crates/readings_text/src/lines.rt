@@ -1,10 +1,10 @@
 //! A line of readings.
-ghost use Rattle.std.specs.Prelude.{◌≡◌, ℕ, ◌<◌, ◌≤◌, length, MatchOption, slice_index, ◌≢◌};
+ghost use Rattle.std.specs.Prelude.{◌≡◌, ℕ, ℤ, ◌<◌, ◌≤◌, length, MatchOption, slice_index, ◌≢◌};
 ghost use Rattle.std.specs.Bool.{Decides};
-ghost use Rattle.readings_text.specs.Lines.{SaidOfLine, Silent, WritesReading};
+ghost use Rattle.readings_text.specs.Lines.{SaidOfLine, Silent, WritesPair, KeepsPair, HasLarge, IsPair};
 
 use crate::faults::ReadingsFault;
-use crate::numbers::number;
+use crate::numbers::{Written, number};
 use quantity::Whole;
 use text::TextLine;
 
@@ -26,9 +26,9 @@ fn first_blank(line: &[u8]) -> usize
     line.iter().position(|b| *b == b' ').unwrap_or(line.len())
 }
 
-// The reading that the line writes, if it writes one.
-fn split_reading(line: &[u8]) -> Option<Reading>
-    ensures { MatchOption result ((v : Reading) → WritesReading line.now v → ⊥) (WritesReading line.now) }
+// The two numbers that the line writes, if it writes two.
+fn split_line(line: &[u8]) -> Option<(Written, Written)>
+    ensures { MatchOption result ((x y : ℤ) → WritesPair line.now x y → ⊥) (KeepsPair line.now) }
 {
     let at = first_blank(line);
     if at == line.len() {
@@ -36,7 +36,17 @@ fn split_reading(line: &[u8]) -> Option<Reading>
     }
     let value = number(&line[..at])?;
     let rate = number(&line[at + 1..])?;
-    Some(Reading { value, rate })
+    Some((value, rate))
+}
+
+// The reading of two numbers, if both are small.
+fn small_pair(pair: (Written, Written)) -> Option<Reading>
+    ensures { MatchOption result (HasLarge pair) (IsPair pair) }
+{
+    match pair {
+        (Written::Small(value), Written::Small(rate)) => Some(Reading { value, rate }),
+        _ => None,
+    }
 }
 
 // Whether the line is a comment or empty.
@@ -54,8 +64,11 @@ pub(crate) fn read_line(line: TextLine<'_>, wanted: usize) -> Result<Option<Read
     if is_silent(line.bytes) {
         return Ok(None);
     }
-    let Some(reading) = split_reading(line.bytes) else {
+    let Some(pair) = split_line(line.bytes) else {
         return Err(ReadingsFault::Form { line: number });
+    };
+    let Some(reading) = small_pair(pair) else {
+        return Err(ReadingsFault::TooLarge { line: number });
     };
     if wanted == 0 {
         return Err(ReadingsFault::TooMany { line: number });

@@ -1,11 +1,21 @@
 //! Whole numbers as a text writes them.
-ghost use Rattle.std.specs.Prelude.{◌≡◌, ◌-◌, ◌^◌, min, MatchOption, Decides};
+ghost use Rattle.std.specs.Prelude.{◌≡◌, ◌-◌, ◌^◌, ℤ, min, MatchOption, Decides};
 ghost use Rattle.std.specs.List.{All};
 ghost use Rattle.text.specs.Decimal.{value_of_digits};
 ghost use Rattle.text.specs.Grammar.{Digit};
-ghost use Rattle.readings_text.specs.Numbers.{SomeDigits, WritesNegative, WritesPositive, Writes};
+ghost use Rattle.readings_text.specs.Numbers.{SomeDigits, WritesNegative, WritesPositive, Writes, Keeps};
 
 use quantity::Whole;
+use small_readings::MAX_READING;
+
+// What is kept of a number that a text writes.
+#[derive(Clone, Copy)]
+pub(crate) enum Written {
+    // It is small enough for a reading.
+    Small(Whole),
+    // It is not.
+    Large,
+}
 
 fn are_digits(text: &[u8]) -> bool
     ensures { Decides result (All Digit text.now) }
@@ -29,29 +39,35 @@ fn magnitude(digits: &[u8]) -> u64
     })
 }
 
-fn positive(digits: &[u8]) -> Option<Whole>
-    ensures { MatchOption result ((w : Whole) → WritesPositive digits.now w → ⊥) (WritesPositive digits.now) }
+fn positive(digits: &[u8]) -> Option<Written>
+    ensures { MatchOption result ((z : ℤ) → WritesPositive digits.now z → ⊥) (Keeps (WritesPositive digits.now)) }
 {
     if !is_number(digits) {
         return None;
     }
-    let value = 0i64.checked_add_unsigned(magnitude(digits))?;
-    Some(Whole::new(value))
+    let size = magnitude(digits);
+    if size > MAX_READING {
+        return Some(Written::Large);
+    }
+    Some(Written::Small(Whole::new(size as i64)))
 }
 
-fn negative(digits: &[u8]) -> Option<Whole>
-    ensures { MatchOption result ((w : Whole) → WritesNegative digits.now w → ⊥) (WritesNegative digits.now) }
+fn negative(digits: &[u8]) -> Option<Written>
+    ensures { MatchOption result ((z : ℤ) → WritesNegative digits.now z → ⊥) (Keeps (WritesNegative digits.now)) }
 {
     if !is_number(digits) {
         return None;
     }
-    let value = 0i64.checked_sub_unsigned(magnitude(digits))?;
-    Some(Whole::new(value))
+    let size = magnitude(digits);
+    if size > MAX_READING {
+        return Some(Written::Large);
+    }
+    Some(Written::Small(Whole::new(-(size as i64))))
 }
 
-/// The whole number that the text writes, if it writes one that fits.
-pub fn number(text: &[u8]) -> Option<Whole>
-    ensures { MatchOption result ((w : Whole) → Writes text.now w → ⊥) (Writes text.now) }
+// The number that the text writes, if it writes one.
+pub(crate) fn number(text: &[u8]) -> Option<Written>
+    ensures { MatchOption result ((z : ℤ) → Writes text.now z → ⊥) (Keeps (Writes text.now)) }
 {
     match text {
         [b'-', digits @ ..] => negative(digits),
