@@ -3,4 +3,4 @@ pub mod Writing
 pub mod Splitting
 pub mod Pairs
 pub mod Gathering
-pub mod Counts
+pub mod Fitting

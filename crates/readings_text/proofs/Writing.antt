@@ -1,6 +1,10 @@
 -- Which texts write numbers.
-use Rattle.std.proofs.Common.{◌≡◌, refl, ℕ, zero, suc, ℤ, pos, neg_ℤ, unsigned_abs, ◌∷◌, [], inl, inr, ⊎_elim, sym, None, Some, Option, MatchOption, subst, ◌∙◌, arith, get_or, length, take, drop, ◌≤◌, ◌-◌, ap}
+use Rattle.std.proofs.Common.{◌≡◌, refl, ℕ, zero, suc, ℤ, pos, neg_ℤ, ◌-ℤ◌, to_z, of_z, w64, unsigned_abs, ◌∷◌, [], inl, inr, ⊎_elim, sym, None, Some, Option, MatchOption, subst, ◌∙◌, arith, get_or, length, take, drop, ◌≤◌, ◌-◌, ap}
 use Rattle.std.proofs.lemmas.List.{drop_more, take_rest}
+use Rattle.std.proofs.lemmas.Int.{to_z_pos, to_z-of_z}
+use Rattle.std.proofs.Math.IntN.{+ℤ_idl}
+use Rattle.std.specs.Int.Signed.{mag}
+use Rattle.small_readings.specs.Small.{largest_reading}
 use Rattle.text.specs.Grammar.{Bytes}
 use Rattle.readings_text.specs.declared.numbers.Written.{Written}
 use Rattle.readings_text.specs.declared.numbers.Written.TheVariants.{Small, Large}
@@ -20,6 +24,18 @@ not_plain (b ∷ bs) g e n = let q = head_same e in let h = n.digits 0 0 (omega 
 -- what is kept of the number, or that there is none
 abbrev pub Told : (ℤ → Type 0) → Option Written → Type 0
 Told P r = MatchOption r ((z : ℤ) → P z → ⊥) (Keeps P)
+
+size_below : (n : ℕ) → mag (neg_ℤ (pos n)) ≤ n
+size_below zero = omega arith
+size_below (suc n) = omega arith
+
+-- the negation of a small number, as 64 bits hold it
+pub held_negation : (n : ℕ) → n ≤ largest_reading → to_z w64 (of_z w64 (pos 0 -ℤ to_z w64 n)) ≡ neg_ℤ (pos n)
+held_negation n small =
+    let below = size_below n in
+    ap (λ k. to_z w64 (of_z w64 (pos 0 -ℤ k))) (to_z_pos w64 n (omega (arith, small)))
+    ∙ ap (λ k. to_z w64 (of_z w64 k)) (+ℤ_idl (neg_ℤ (pos n)))
+    ∙ to_z-of_z w64 (neg_ℤ (pos n)) (record { sfits = omega (arith, below, small) })
 
 pub size_of_negation : (n : ℕ) → unsigned_abs (neg_ℤ (pos n)) ≡ n
 size_of_negation zero = refl

@@ -1,5 +1,5 @@
 -- Whole numbers as a text writes them.
-use Rattle.std.specs.Prelude.{◌≡◌, ◌≤◌, ◌<◌, ◌⊎◌, ◌∷◌, length, ℤ, pos, neg_ℤ, unsigned_abs}
+use Rattle.std.specs.Prelude.{◌≡◌, ℕ, ◌≤◌, ◌<◌, ◌⊎◌, ◌∷◌, length, ℤ, pos, neg_ℤ, unsigned_abs}
 use Rattle.std.specs.List.{All}
 use Rattle.small_readings.specs.Small.{IsSmall, largest_reading}
 use Rattle.text.specs.Grammar.{Bytes, Digit}
@@ -23,6 +23,10 @@ WritesNegative f z = SomeDigits f × (z ≡ neg_ℤ (pos (value_of_digits f)))
 -- the digits write the number, or a minus and the digits of its negation do
 abbrev pub Writes : Bytes → ℤ → Type 0
 Writes f z = WritesPositive f z ⊎ ((g : Bytes) × (f ≡ 45 ∷ g) × WritesNegative g z)
+
+-- the size is what the digits write, and small
+abbrev pub IsSmallSize : Bytes → ℕ → Type 0
+IsSmallSize f size = (size ≡ value_of_digits f) × (size ≤ largest_reading)
 
 -- no reading is this number, by its size
 abbrev pub IsLarge : ℤ → Type 0

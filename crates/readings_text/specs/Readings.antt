@@ -1,6 +1,7 @@
 -- What reading a text of readings comes to.
-use Rattle.std.specs.Prelude.{◌≡◌, ◌≤◌, ℕ, ◌+◌, ◌-◌, cond, ◌==◌, ◌⊎◌, List, [], ◌∷◌, ◌++◌, map, Result, Ok, Err, IsErrAnd}
+use Rattle.std.specs.Prelude.{◌≡◌, ◌≤◌, ℕ, ◌+◌, ◌-◌, cond, ◌==◌, ◌⊎◌, List, [], ◌∷◌, ◌++◌, map, length, Result, Ok, Err, IsErrAnd}
 use Rattle.quantity.specs.declared.numbers.Whole.{Whole}
+use Rattle.small_readings.specs.Small.{AreSmall}
 use Rattle.text.specs.Grammar.{Bytes}
 use Rattle.text.specs.Newlines.{lines_of}
 use Rattle.readings_text.specs.declared.faults.ReadingsFault.{ReadingsFault}
@@ -29,3 +30,15 @@ ReadsReadings text variables r values rates values' rates' =
     × Gives variables 0 (lines_of text) r vs
     × (values' ≡ values ++ map (λ (v : Reading). v.value) vs)
     × (rates' ≡ rates ++ map (λ (v : Reading). v.rate) vs)
+
+-- The readings behind the old ones are small. Where the text is read to its end, each variable has one.
+pub record AddsReadings (variables : ℕ) (r : ReadingsAnswer) (old new : List Whole) : Type 0 where
+  pub small : AreSmall old → AreSmall new
+  pub complete : r ≡ Ok tt → length new ≡ length old + variables
+
+-- THEOREM: so it is with values and with rates
+abbrev pub ReadingsFit : Type 0
+ReadingsFit =
+    (text : Bytes) (variables : ℕ) (r : ReadingsAnswer) (values rates values' rates' : List Whole)
+    → ReadsReadings text variables r values rates values' rates'
+    → AddsReadings variables r values values' × AddsReadings variables r rates rates'

@@ -1,9 +1,10 @@
 //! Whole numbers as a text writes them.
-ghost use Rattle.std.specs.Prelude.{◌≡◌, ◌-◌, ◌^◌, ℤ, min, MatchOption, Decides};
+ghost use Rattle.std.specs.Prelude.{◌≡◌, ◌<◌, ◌-◌, ◌^◌, ℤ, min, MatchOption, Decides};
 ghost use Rattle.std.specs.List.{All};
+ghost use Rattle.small_readings.specs.Small.{largest_reading};
 ghost use Rattle.text.specs.Decimal.{value_of_digits};
 ghost use Rattle.text.specs.Grammar.{Digit};
-ghost use Rattle.readings_text.specs.Numbers.{SomeDigits, WritesNegative, WritesPositive, Writes, Keeps};
+ghost use Rattle.readings_text.specs.Numbers.{SomeDigits, WritesNegative, WritesPositive, Writes, IsSmallSize, Keeps};
 
 use quantity::Whole;
 use small_readings::MAX_READING;
@@ -39,16 +40,26 @@ fn magnitude(digits: &[u8]) -> u64
     })
 }
 
+// The number that the digits write, if it is small.
+fn small_size(digits: &[u8]) -> Option<u64>
+    ensures { MatchOption result (largest_reading < value_of_digits digits.now) (IsSmallSize digits.now) }
+{
+    let size = magnitude(digits);
+    if size > MAX_READING {
+        return None;
+    }
+    Some(size)
+}
+
 fn positive(digits: &[u8]) -> Option<Written>
     ensures { MatchOption result ((z : ℤ) → WritesPositive digits.now z → ⊥) (Keeps (WritesPositive digits.now)) }
 {
     if !is_number(digits) {
         return None;
     }
-    let size = magnitude(digits);
-    if size > MAX_READING {
+    let Some(size) = small_size(digits) else {
         return Some(Written::Large);
-    }
+    };
     Some(Written::Small(Whole::new(size as i64)))
 }
 
@@ -58,10 +69,9 @@ fn negative(digits: &[u8]) -> Option<Written>
     if !is_number(digits) {
         return None;
     }
-    let size = magnitude(digits);
-    if size > MAX_READING {
+    let Some(size) = small_size(digits) else {
         return Some(Written::Large);
-    }
+    };
     Some(Written::Small(Whole::new(-(size as i64))))
 }
 

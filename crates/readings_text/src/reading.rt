@@ -1,6 +1,6 @@
 //! A text of readings is read.
 ghost use Rattle.std.specs.Prelude.{IfOk};
-ghost use Rattle.readings_text.specs.Readings.{ReadsReadings};
+ghost use Rattle.readings_text.specs.Readings.{ReadsReadings, ReadingsFit};
 
 use crate::faults::ReadingsFault;
 use crate::lines::read_line;
@@ -16,8 +16,9 @@ pub fn read_readings(
     values: &mut Vec<Whole>,
     rates: &mut Vec<Whole>,
 ) -> Result<Result<(), ReadingsFault>, AllocError>
-    ensures { IfOk result (λ r. ReadsReadings text.now variables r
+    ensures reads { IfOk result (λ r. ReadsReadings text.now variables r
         values.old.items rates.old.items values.new.items rates.new.items) }
+    ensures fit { ReadingsFit }
 {
     let mut wanted = variables;
     let mut last = 0;

@@ -1,14 +1,12 @@
-use Rattle.std.proofs.Common.{rules, ap, ◌∙◌, ◌≡◌, ◌-◌, ◌^◌, min, subst, sym, pos, neg_ℤ, unsigned_abs, ℕ, ◌≤◌, arith, refl}
-use Rattle.text.specs.Decimal.{value_of_digits}
+use Rattle.std.proofs.Common.{rules, ap, ◌∙◌, ◌≡◌, ◌≤◌, subst, sym, pos, neg_ℤ, unsigned_abs, ℕ}
 use Rattle.small_readings.specs.Small.{largest_reading}
-use Rattle.readings_text.proofs.Writing.{size_of_negation}
+use Rattle.readings_text.specs.Numbers.{IsSmallSize}
+use Rattle.readings_text.proofs.Writing.{held_negation, size_of_negation}
 use Rattle.readings_text.proofs.numbers.negative.Goals as goal
 
 pub returns : goal.returns
 returns c =
-    let capped : c.magnitude-size.result ≡ min (value_of_digits c.args.digits.now) (2 ^ 64 - 1) = c.magnitude-size.ensures in
-    let small : c.magnitude-size.result ≤ largest_reading = c.if-size-gt-MAX_READING.false in
-    let size : c.magnitude-size.result ≡ value_of_digits c.args.digits.now = omega (arith, capped, small) in
-    let value : c.new.result.value ≡ neg_ℤ (pos c.magnitude-size.result) = c.new.ensures.value ∙ ? in
-    let large : unsigned_abs c.new.result.value ≡ c.magnitude-size.result = ap unsigned_abs value ∙ size_of_negation c.magnitude-size.result in
-    ((search rules, value ∙ ap (λ (n : ℕ). neg_ℤ (pos n)) size), subst (λ (n : ℕ). n ≤ largest_reading) (sym large) small)
+    let told : IsSmallSize c.args.digits.now c.in-Some.size = c.in-Some.ensures in
+    let value : c.new.result.value ≡ neg_ℤ (pos c.in-Some.size) = c.new.ensures.value ∙ held_negation c.in-Some.size told.1 in
+    let size : unsigned_abs c.new.result.value ≡ c.in-Some.size = ap unsigned_abs value ∙ size_of_negation c.in-Some.size in
+    ((search rules, value ∙ ap (λ (n : ℕ). neg_ℤ (pos n)) told.0), subst (λ (n : ℕ). n ≤ largest_reading) (sym size) told.1)
