@@ -35,8 +35,8 @@ module _ {G : Type 0} (𝓖 : Group G) (b : Netlist) (r : Readings G) where
 
   plant_stays : (old new : List G) (a : Acceptance) → Checked 𝓖 b r old new a.checked → PlantAgrees 𝓖 b r a
   plant_stays old new a h = record {
-    agree = λ c s same. plants_agree 𝓖 b c same.alike r s same.read_alike;
-    verdicts = λ c s same u v e is.
+    agree = λ x c s same. plants_agree 𝓖 b c same.alike x s same.read_alike;
+    verdicts = λ u e c s same v is.
         let both = plants_agree 𝓖 b c same.alike r s same.read_alike in
         let here = verdict_is old new a.checked h u e in (
           λ holds. one_verdict 𝓖 c s v Holds is (both.0 (subst (VerdictIs 𝓖 b r) holds here)),
@@ -57,7 +57,7 @@ module _ {G : Type 0} (𝓖 : Group G) (r : Readings G) (old new : Buffers G) (a
       subst (λ (drawn : Netlist). Agreement 𝓖 drawn r old new a) same
       (record {
         sheet = refl;
-        readings = record { listed = listed; terms = terms; spans = spans; placed = placed; agree = equations_agree 𝓖 a.sheet sound r };
+        readings = record { listed = listed; terms = terms; spans = spans; placed = placed; agree = λ x. equations_agree 𝓖 a.sheet sound x };
         verdict = record { checked = checked; only = only_verdict 𝓖 a.sheet r old.potentials.now new.potentials.now a.checked checked };
         plant = plant_stays 𝓖 a.sheet r old.potentials.now new.potentials.now a checked;
       })
@@ -68,5 +68,5 @@ pub both_or_neither :
     → Agreement 𝓖 c s old' new' second
     → BothOrNeither 𝓖 b r first c s second
 both_or_neither {𝓖 = 𝓖} {c = c} {s = s} {old' = old'} {new' = new'} {second = second} one other same u v is is' =
-    one.plant.verdicts c s same u v is
+    one.plant.verdicts u is c s same v
     (verdict_is 𝓖 c s old'.potentials.now new'.potentials.now second.checked other.verdict.checked v is')

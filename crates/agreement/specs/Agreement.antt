@@ -1,24 +1,20 @@
 -- What it comes to when a draft is accepted: the readings, the verdict and the plant.
-use Rattle.std.specs.Prelude.{◌≡◌, ℕ, ◌↔◌, length, Ok, None, Option}
+use Rattle.std.specs.Prelude.{◌≡◌, length, Ok, None, Option}
 use Rattle.quantity.specs.Group.{Group}
 use Rattle.netlist.specs.Buffers.{filled}
 use Rattle.netlist.specs.Netlist.{Netlist}
 use Rattle.netlist.specs.Pieces.{flat}
 use Rattle.network.specs.Readings.{Readings}
-use Rattle.network.specs.ReadingsAgree.{ReadingsAgree}
 use Rattle.equation.specs.declared.refusals.EquationRefusal.{EquationRefusal}
 use Rattle.equation.specs.Equations.{equations_of}
 use Rattle.equation.specs.Listing.{spans_from, judge_equations, answer_equations}
 use Rattle.equation.specs.Placed.{Placed}
-use Rattle.readings.specs.Readings.{EquationsHold}
-use Rattle.likeness.specs.Alike.{Alike}
-use Rattle.likeness.specs.Agreeing.{ReadAlike}
 use Rattle.checking.specs.declared.verdicts.Verdict.{Verdict}
-use Rattle.checking.specs.declared.verdicts.Verdict.TheVariants.{Holds}
 use Rattle.checking.specs.Verdicts.{VerdictIs}
 use Rattle.checking.specs.Checked.{judge_check, Checked}
 use Rattle.agreement.specs.declared.accepting.Acceptance.{Acceptance}
 use Rattle.agreement.specs.declared.accepting.Buffers.{Buffers}
+use Rattle.agreement.specs.Redrawing.{PotentialsAgree, SamePlant, HoldAlike, RedrawnAgrees, RedrawnHolds}
 
 -- they are the same buffers, whatever is in them
 abbrev pub SameBuffers : {G : Type 0} → Buffers G → Buffers G → Type 0
@@ -31,22 +27,15 @@ SameBuffers old new =
 abbrev pub judge_buffers : {G : Type 0} → Netlist → Buffers G → Option EquationRefusal
 judge_buffers b buffers = judge_equations b (length buffers.terms.now) (length buffers.spans.now)
 
--- a netlist that says the same in another order and with other numbers, and readings of it that are read alike
-pub record SamePlant {G : Type 0} (𝓖 : Group G) (b : Netlist) (r : Readings G) (c : Netlist)
-    (s : Readings G) : Type 0 where
-  pub alike : Alike b c
-  pub read_alike : ReadAlike 𝓖 b alike.there r s
-
--- The buffers hold the equations of the netlist, term for term and without gaps, unless one is short; and some
--- potentials of the nodes satisfy all equations exactly if every law holds, nothing flows out of any set of
--- nodes, and every closed walk adds up to zero.
-pub record ListingAgrees {G : Type 0} (𝓖 : Group G) (b : Netlist) (r : Readings G) (old new : Buffers G)
+-- The buffers hold the equations of the netlist, term for term and without gaps, unless one is short; and
+-- potentials that satisfy them all exist exactly for the readings that agree, whatever is read.
+pub record ListingAgrees {G : Type 0} (𝓖 : Group G) (b : Netlist) (old new : Buffers G)
     (a : Acceptance) : Type 0 where
   pub listed : a.listed ≡ answer_equations b (length old.terms.now) (length old.spans.now)
   pub terms : new.terms.now ≡ filled (judge_buffers b old) old.terms.now (flat (equations_of b))
   pub spans : new.spans.now ≡ filled (judge_buffers b old) old.spans.now (spans_from 0 (equations_of b))
   pub placed : Placed b
-  pub agree : ((p : ℕ → G) × EquationsHold 𝓖 b r p) ↔ ReadingsAgree 𝓖 b r
+  pub agree : PotentialsAgree 𝓖 b
 
 -- The verdict and the potentials are those of the readings, unless a count is wrong; and if none is, a verdict
 -- that these readings have is the one that is answered.
@@ -56,24 +45,17 @@ pub record VerdictAgrees {G : Type 0} (𝓖 : Group G) (b : Netlist) (r : Readin
   pub only :
       judge_check b r (length old.potentials.now) ≡ None → (v : Verdict) → VerdictIs 𝓖 b r v → a.checked ≡ Ok v
 
--- what is said of the readings of b and of c is `Holds` for both or for neither
-abbrev pub HoldAlike : Verdict → Verdict → Type 0
-HoldAlike u v = (u ≡ Holds) ↔ (v ≡ Holds)
-
--- However the plant is drawn, its readings agree or do not; so the verdict is `Holds` for each netlist of it,
--- or for none.
+-- However the plant is drawn, its readings agree or do not, whatever is read; so the verdict is `Holds` for each
+-- netlist of it, or for none.
 pub record PlantAgrees {G : Type 0} (𝓖 : Group G) (b : Netlist) (r : Readings G) (a : Acceptance) : Type 0 where
-  pub agree :
-      (c : Netlist) (s : Readings G) → SamePlant 𝓖 b r c s → ReadingsAgree 𝓖 b r ↔ ReadingsAgree 𝓖 c s
-  pub verdicts :
-      (c : Netlist) (s : Readings G) → SamePlant 𝓖 b r c s
-      → (u v : Verdict) → a.checked ≡ Ok u → VerdictIs 𝓖 c s v → HoldAlike u v
+  pub agree : RedrawnAgrees 𝓖 b
+  pub verdicts : (u : Verdict) → a.checked ≡ Ok u → RedrawnHolds 𝓖 b r u
 
 -- what it comes to when a draft with netlist b is accepted, with readings of it
 pub record Agreement {G : Type 0} (𝓖 : Group G) (b : Netlist) (r : Readings G) (old new : Buffers G)
     (a : Acceptance) : Type 0 where
   pub sheet : a.sheet ≡ b
-  pub readings : ListingAgrees 𝓖 b r old new a
+  pub readings : ListingAgrees 𝓖 b old new a
   pub verdict : VerdictAgrees 𝓖 b r old new a
   pub plant : PlantAgrees 𝓖 b r a
 

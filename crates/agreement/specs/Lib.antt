@@ -1,2 +1,3 @@
+pub mod Redrawing
 pub mod Agreement
 pub mod Requests

@@ -1,4 +1,5 @@
 //! A draft is accepted: its equations are listed, and readings of it are checked.
+ghost use Rattle.netlist.specs.Sound.{Sound};
 ghost use Rattle.reading_sums.specs.Given.{given};
 ghost use Rattle.calls.specs.Calls.{entered};
 ghost use Rattle.agreement.specs.Agreement.{Agreement, SameBuffers};

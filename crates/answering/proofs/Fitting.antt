@@ -1,9 +1,8 @@
--- Readings of the right number are checked, and readings that are read to their end are of the right number.
+-- Readings of the right number are checked, and readings that are read to their end are small and of that number.
 use Rattle.std.proofs.Common.{◌≡◌, ℕ, ◌+◌, ◌-◌, Bool, true, false, List, [], ◌∷◌, length, None, Ok, Err, Result, sym, refl, ap, ◌∙◌, ⊎_elim, arith}
 use Rattle.std.specs.Prelude.{not, ◌||◌, ◌==◌, cond}
 use Rattle.std.specs.Result.{IsOk}
-use Rattle.std.proofs.lemmas.Bool.{eq-eqb, eqb-true}
-use Rattle.std.proofs.lemmas.List.{length-map}
+use Rattle.std.proofs.lemmas.Bool.{eq-eqb}
 use Rattle.quantity.specs.Group.{Group}
 use Rattle.quantity.specs.declared.numbers.Whole.{Whole}
 use Rattle.checking.specs.declared.refusals.CheckRefusal.{CheckRefusal}
@@ -12,11 +11,8 @@ use Rattle.network.specs.Readings.{Readings}
 use Rattle.netlist.specs.Netlist.{Netlist}
 use Rattle.refusal.specs.Tests.{first_of}
 use Rattle.text.specs.Grammar.{Bytes}
-use Rattle.text.specs.Newlines.{lines_of}
-use Rattle.readings_text.specs.declared.lines.Reading.{Reading}
-use Rattle.readings_text.specs.declared.faults.ReadingsFault.{ReadingsFault}
-use Rattle.readings_text.specs.declared.faults.ReadingsFault.TheVariants.{TooFew}
-use Rattle.readings_text.specs.Readings.{Gives, ReadsReadings, ReadingsAnswer}
+use Rattle.small_readings.specs.Small.{AreSmall}
+use Rattle.readings_text.specs.Readings.{ReadsReadings, ReadingsFit}
 use Rattle.checking.specs.declared.verdicts.Verdict.{Verdict}
 use Rattle.checking.specs.Checked.{judge_check, Checked}
 
@@ -32,26 +28,22 @@ pub is_checked : {G : Type 0} (𝓖 : Group G) (b : Netlist) (r : Readings G) (o
 is_checked 𝓖 b r old new (Ok verdict) fits h = refl
 is_checked 𝓖 b r old new (Err why) fits h = let z : ◌≡◌ {A = ℕ} 0 1 = cc in absurd (omega arith)
 
--- lines that are read to their end give so many readings as are wanted
-enough : (t : Bool) (fault : ReadingsFault) → ◌≡◌ {A = ReadingsAnswer} (Ok tt) (cond t (Ok tt) (Err fault)) → t ≡ true
-enough true fault h = refl
-enough false fault h = let z : ◌≡◌ {A = ℕ} 0 1 = cc in absurd (omega arith)
+-- readings that are read onto none are small, and each variable has a value and a rate
+pub record ReadingsOf (variables : ℕ) (values rates : List Whole) : Type 0 where
+  pub values_fit : length values ≡ variables
+  pub rates_fit : length rates ≡ variables
+  pub small_values : AreSmall values
+  pub small_rates : AreSmall rates
 
-all_given : (wanted n : ℕ) (lines : List Bytes) (vs : List Reading) → Gives wanted n lines (Ok tt) vs → length vs ≡ wanted
-all_given wanted n [] vs h = ap length h.0 ∙ sym (eqb-true wanted 0 (enough (wanted == 0) (TooFew n) h.1))
-all_given wanted n (line ∷ lines) vs h =
-    ⊎_elim
-    (λ silent. all_given wanted (n + 1) lines vs silent.1)
-    (λ rest. ⊎_elim
-    (λ given. let more = all_given (wanted - 1) (n + 1) lines given.1 given.5 in omega (arith, ap length given.4, given.3, more))
-    (λ fault. absurd fault.0)
-    rest)
-    h
+none_small : AreSmall []
+none_small k d l = absurd (omega (arith, l))
 
-pub readings_fit : (text : Bytes) (variables : ℕ) (values rates : List Whole) → ReadsReadings text variables (Ok tt) [] [] values rates → (length values ≡ variables) × (length rates ≡ variables)
-readings_fit text variables values rates h =
-    let vs = h.0 in
-    let many = all_given variables 0 (lines_of text) vs h.1 in (
-      omega (arith, ap length h.2, length-map vs (λ (v : Reading). v.value), many),
-      omega (arith, ap length h.3, length-map vs (λ (v : Reading). v.rate), many),
-    )
+pub readings_of : ReadingsFit → (text : Bytes) (variables : ℕ) (values rates : List Whole) → ReadsReadings text variables (Ok tt) [] [] values rates → ReadingsOf variables values rates
+readings_of fit text variables values rates read =
+    let told = fit text variables (Ok tt) [] [] values rates read in
+    record {
+      values_fit = told.0.complete refl;
+      rates_fit = told.1.complete refl;
+      small_values = told.0.small none_small;
+      small_rates = told.1.small none_small;
+    }

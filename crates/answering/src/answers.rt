@@ -1,6 +1,7 @@
 //! A sheet text and readings of its sheet are read, checked and printed.
 ghost use Rattle.std.specs.Prelude.{◌≡◌, IfOk, length};
 ghost use Rattle.reading_sums.specs.Given.{given};
+ghost use Rattle.small_readings.specs.Small.{AreSmall};
 ghost use Rattle.answering.specs.Answering.{Accepted, Answered};
 
 use crate::accepted::print_accepted;
@@ -28,6 +29,8 @@ fn print_draft(
     requires values { length readings.values.now ≡ draft.variables }
     requires rates { length readings.rates.now ≡ draft.variables }
     requires potentials { length potentials.old ≡ length draft.domains }
+    requires small_values { AreSmall readings.values.now }
+    requires small_rates { AreSmall readings.rates.now }
     ensures { IfOk result (λ verdict. Accepted draft (given readings.entry) verdict potentials.new
         out.old.items out.new.items) }
 {
