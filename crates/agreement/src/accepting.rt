@@ -47,6 +47,7 @@ pub fn accept<K: Quantity, A: Assembly>(
     ensures agreement { Agreement K.group (entered A.Assembly.meaning draft calls.now) (given readings.entry)
         buffers.old buffers.new result }
     ensures same { SameBuffers buffers.old buffers.new }
+    ensures sound { Sound result.sheet }
 {
     run(&mut draft, calls);
     let sheet = draft.issue();

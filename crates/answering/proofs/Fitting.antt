@@ -1,6 +1,6 @@
 -- Readings of the right number are checked, and readings that are read to their end are small and of that number.
-use Rattle.std.proofs.Common.{◌≡◌, ℕ, ◌+◌, ◌-◌, Bool, true, false, List, [], ◌∷◌, length, None, Ok, Err, Result, sym, refl, ap, ◌∙◌, ⊎_elim, arith}
-use Rattle.std.specs.Prelude.{not, ◌||◌, ◌==◌, cond}
+use Rattle.std.proofs.Common.{◌≡◌, ℕ, ◌+◌, List, [], ◌∷◌, length, None, Ok, Err, Result, refl, ◌∙◌, arith}
+use Rattle.std.specs.Prelude.{not, ◌||◌}
 use Rattle.std.specs.Result.{IsOk}
 use Rattle.std.proofs.lemmas.Bool.{eq-eqb}
 use Rattle.quantity.specs.Group.{Group}
@@ -28,6 +28,9 @@ pub is_checked : {G : Type 0} (𝓖 : Group G) (b : Netlist) (r : Readings G) (o
 is_checked 𝓖 b r old new (Ok verdict) fits h = refl
 is_checked 𝓖 b r old new (Err why) fits h = let z : ◌≡◌ {A = ℕ} 0 1 = cc in absurd (omega arith)
 
+pub same_verdict : (u v : Verdict) → ◌≡◌ {A = Result Verdict CheckRefusal} (Ok u) (Ok v) → u ≡ v
+same_verdict u v e = cc
+
 -- readings that are read onto none are small, and each variable has a value and a rate
 pub record ReadingsOf (variables : ℕ) (values rates : List Whole) : Type 0 where
   pub values_fit : length values ≡ variables
@@ -38,12 +41,15 @@ pub record ReadingsOf (variables : ℕ) (values rates : List Whole) : Type 0 whe
 none_small : AreSmall []
 none_small k d l = absurd (omega (arith, l))
 
+zero_first : (n : ℕ) → 0 + n ≡ n
+zero_first n = omega arith
+
 pub readings_of : ReadingsFit → (text : Bytes) (variables : ℕ) (values rates : List Whole) → ReadsReadings text variables (Ok tt) [] [] values rates → ReadingsOf variables values rates
 readings_of fit text variables values rates read =
     let told = fit text variables (Ok tt) [] [] values rates read in
     record {
-      values_fit = told.0.complete refl;
-      rates_fit = told.1.complete refl;
+      values_fit = told.0.complete refl ∙ zero_first variables;
+      rates_fit = told.1.complete refl ∙ zero_first variables;
       small_values = told.0.small none_small;
       small_rates = told.1.small none_small;
     }

@@ -14,4 +14,5 @@ returns g c =
           (c.issue-sheet.ensures.netlist ∙ c.run.ensures)
           c.issue-sheet.ensures.sound listed.answer listed.terms listed.spans listed.placed c.check-checked.ensures.checked;
       same = (refl, refl, refl);
+      sound = c.issue-sheet.ensures.sound;
     }

@@ -2,7 +2,7 @@ use Rattle.std.proofs.Common.{length, List, [], ap, ◌∙◌, Ok, Err, refl, sy
 use Rattle.quantity.specs.declared.numbers.Whole.{Whole}
 use Rattle.small_readings.specs.Small.{AreSmall}
 use Rattle.readings_text.specs.Readings.{ReadsReadings}
-use Rattle.answering.proofs.Fitting.{ReadingsOf, readings_of}
+use Rattle.answering.proofs.Fitting.{readings_of}
 use Rattle.answering.proofs.answers.answer.Goals as goal
 
 pub print_draft-requires-clause-values : goal.print_draft-requires-clause-values

@@ -1,8 +1,8 @@
-use Rattle.std.proofs.Common.{◌≡◌, length, None, rules}
+use Rattle.std.proofs.Common.{◌≡◌, ◌∙◌, length, None, sym, rules}
 use Rattle.quantity.specs.Wholes.{wholes}
 use Rattle.reading_sums.specs.Given.{given}
 use Rattle.checking.specs.Checked.{judge_check}
-use Rattle.answering.proofs.Fitting.{counts_fit, is_checked}
+use Rattle.answering.proofs.Fitting.{counts_fit, is_checked, same_verdict}
 use Rattle.answering.proofs.answers.print_draft.Goals as goal
 
 pub unwrap-verdict-requires : goal.unwrap-verdict-requires
@@ -17,4 +17,15 @@ returns c =
     let agreed = c.accept-accepted.ensures.agreement in
     let told = rw c.unwrap-verdict.ensures at agreed.verdict.checked in
     let filled = told.3 in
-    record { is = told.2; filled = search rules; printed = rw agreed.sheet at c.in_ok-print_accepted.ensures }
+    let counted = told.1 ∙ c.requires.potentials in
+    record {
+      netlist = record { placed = agreed.readings.placed; potentials = agreed.readings.agree; redrawn = agreed.plant.agree };
+      judged = record {
+        is = told.2;
+        only = λ v is. same_verdict _ v (sym c.unwrap-verdict.ensures ∙ agreed.verdict.only told.0 v is);
+        redrawn = agreed.plant.verdicts _ c.unwrap-verdict.ensures;
+        counted = search rules;
+        filled = search rules;
+      };
+      printed = rw agreed.sheet at c.in_ok-print_accepted.ensures;
+    }
