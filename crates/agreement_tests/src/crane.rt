@@ -15,10 +15,9 @@ pub(super) const RUNG: Single = Single {
 };
 
 // Two rungs in a row, with a joint between them.
-pub(super) const LADDER: Repeat<Single> = Repeat {
-    part: RUNG,
-    times: 2,
-};
+pub(super) fn ladder() -> Repeat<Single> {
+    Repeat::new(RUNG, 2)
+}
 
 pub(super) type Part = Either<Single, Repeat<Single>>;
 
@@ -31,7 +30,11 @@ pub(super) fn law(flow: usize, across: usize) -> [RawTerm; 2] {
 // at a node that is not drawn. Nodes 0 and 1 are drawn and the ladder's joint is node 2. The rows are: a branch
 // from 0 to 1, an earth at 1, the rungs from 0 to 2 and from 2 to 1, and a rung from 0 to 1. Laws 1 to 3 are
 // those of the rungs.
-pub(super) fn calls<'a>(law: &'a [RawTerm], rung: &'a Part, ladder: &'a Part) -> [Call<'a, Part>; 13] {
+pub(super) fn calls<'a>(
+    law: &'a [RawTerm],
+    rung: &'a Part,
+    ladder: &'a Part,
+) -> [Call<'a, &'a Part>; 13] {
     [
         Call::Node { domain: 1 },
         Call::Node { domain: 9 },
@@ -81,7 +84,7 @@ pub(super) fn calls<'a>(law: &'a [RawTerm], rung: &'a Part, ladder: &'a Part) ->
 
 // The same crane with other numbers, in another order, rung by rung, and none of these calls is refused. Nodes
 // 0 and 1 have changed places.
-pub(super) fn calls_again<'a>(law: &'a [RawTerm], rung: &'a Single) -> [Call<'a, Single>; 10] {
+pub(super) fn calls_again<'a>(law: &'a [RawTerm], rung: Single) -> [Call<'a, Single>; 10] {
     [
         Call::Node { domain: 1 },
         Call::Node { domain: 1 },

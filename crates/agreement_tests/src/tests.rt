@@ -1,5 +1,5 @@
 //! What is listed and what the check says, of readings of the crane.
-use super::crane::{LADDER, RUNG, calls, calls_again, law};
+use super::crane::{RUNG, calls, calls_again, ladder, law};
 use agreement::{Buffers, Request, accept, accept_both};
 use checking::{CheckRefusal, Verdict};
 use draft::Draft;
@@ -63,7 +63,7 @@ fn judged(
 ) -> Result<(Result<Verdict, CheckRefusal>, [Whole; 3]), AllocError> {
     let law = law(0, 1);
     let rung = Either::One(RUNG);
-    let ladder = Either::Other(LADDER);
+    let ladder = Either::Other(ladder());
     let mut potentials = [Whole::new(8); 3];
     let acceptance = accept(
         Draft::new(heap)?,
@@ -124,7 +124,7 @@ fn listed(
 ) -> Result<Result<Listing, EquationRefusal>, AllocError> {
     let law = law(0, 1);
     let rung = Either::One(RUNG);
-    let ladder = Either::Other(LADDER);
+    let ladder = Either::Other(ladder());
     let no_readings: [Whole; 0] = [];
     let acceptance = accept(
         Draft::new(heap)?,
@@ -196,7 +196,7 @@ fn judged_twice(
                 spans: &mut [],
                 potentials: &mut potentials,
             },
-            calls: &calls(&law(0, 1), &Either::One(RUNG), &Either::Other(LADDER)),
+            calls: &calls(&law(0, 1), &Either::One(RUNG), &Either::Other(ladder())),
             readings: Readings {
                 values: &with(values(), 2, earth),
                 rates: &rates(),
@@ -209,7 +209,7 @@ fn judged_twice(
                 spans: &mut [],
                 potentials: &mut others,
             },
-            calls: &calls_again(&law(2, 3), &RUNG),
+            calls: &calls_again(&law(2, 3), RUNG),
             readings: Readings {
                 values: &with(wholes(VALUES_AGAIN), 0, earth),
                 rates: &with([Whole::new(0); 10], 3, RATE),

@@ -1,5 +1,5 @@
 -- What the program writes on what it reads.
-use Rattle.std.specs.Prelude.{◌≡◌, ℕ, [], List, IfSome, Option}
+use Rattle.std.specs.Prelude.{[], IfSome, Option}
 use Rattle.std.specs.Io.KnownBytes.{Appends}
 use Rattle.text.specs.Grammar.{Bytes}
 use Rattle.sheet_reader.specs.Reading.{TextAnswer}
