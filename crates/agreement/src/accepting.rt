@@ -2,6 +2,7 @@
 ghost use Rattle.netlist.specs.Sound.{Sound};
 ghost use Rattle.reading_sums.specs.Given.{given};
 ghost use Rattle.calls.specs.Calls.{entered};
+ghost use Rattle.checking.specs.Integers.{ExactVerdicts};
 ghost use Rattle.agreement.specs.Agreement.{Agreement, SameBuffers};
 
 use assembly::Assembly;
@@ -36,7 +37,8 @@ pub struct Buffers<'a, K> {
     pub potentials: &'a mut [K],
 }
 
-/// Makes the calls on a draft, issues it, lists its equations into two buffers, and checks the readings.
+/// Makes the calls on a draft, issues it, lists its equations into two buffers, and checks the readings. Of whole numbers
+/// from -2^40 to 2^40, the verdict and the potentials are those over the unbounded integers.
 pub fn accept<K: Quantity, A: Assembly>(
     mut draft: Draft,
     calls: &[Call<A>],
@@ -48,6 +50,7 @@ pub fn accept<K: Quantity, A: Assembly>(
         buffers.old buffers.new result }
     ensures same { SameBuffers buffers.old buffers.new }
     ensures sound { Sound result.sheet }
+    ensures exact { ExactVerdicts }
 {
     run(&mut draft, calls);
     let sheet = draft.issue();

@@ -9,6 +9,7 @@ use Rattle.text.specs.Grammar.{Bytes}
 use Rattle.sheet_reader.specs.Reading.{ReadsText}
 use Rattle.readings_text.specs.Readings.{ReadsReadings}
 use Rattle.checking.specs.declared.verdicts.Verdict.{Verdict}
+use Rattle.checking.specs.Integers.{JudgesIntegers}
 use Rattle.checking.specs.Potentials.{Filled}
 use Rattle.checking.specs.Verdicts.{VerdictIs}
 use Rattle.agreement.specs.Redrawing.{PotentialsAgree, RedrawnAgrees, RedrawnHolds}
@@ -24,13 +25,15 @@ pub record NetlistAgrees (c : Netlist) : Type 0 where
   pub redrawn : RedrawnAgrees wholes c
 
 -- The verdict is that of the readings, which have no other, and it is `Holds` however the plant is drawn, or never.
--- Each node has a potential, and the potentials are those that go with the verdict.
+-- Each node has a potential, and the potentials are those that go with the verdict. Both are so over the unbounded
+-- integers.
 pub record ReadingsJudged (c : Netlist) (r : Readings Whole) (verdict : Verdict) (ps : List Whole) : Type 0 where
   pub is : VerdictIs wholes c r verdict
   pub only : (v : Verdict) → VerdictIs wholes c r v → verdict ≡ v
   pub redrawn : RedrawnHolds wholes c r verdict
   pub counted : length ps ≡ length c.domains
   pub filled : Filled wholes c r ps verdict
+  pub integers : JudgesIntegers c r ps verdict
 
 -- what is printed of the netlist, the verdict and the potentials stands behind old
 pub record Accepted (c : Netlist) (r : Readings Whole) (verdict : Verdict) (ps : List Whole)

@@ -15,4 +15,5 @@ returns g c =
           c.issue-sheet.ensures.sound listed.answer listed.terms listed.spans listed.placed c.check-checked.ensures.checked;
       same = (refl, refl, refl);
       sound = c.issue-sheet.ensures.sound;
+      exact = c.check-checked.ensures.exact;
     }

@@ -1,4 +1,5 @@
-use Rattle.std.proofs.Common.{◌≡◌, ◌∙◌, length, None, sym, rules}
+use Rattle.std.proofs.Common.{◌≡◌, ◌∙◌, length, None, subst, sym, rules}
+use Rattle.netlist.specs.Sound.{Sound}
 use Rattle.quantity.specs.Wholes.{wholes}
 use Rattle.reading_sums.specs.Given.{given}
 use Rattle.checking.specs.Checked.{judge_check}
@@ -17,6 +18,8 @@ returns c =
     let agreed = c.accept-accepted.ensures.agreement in
     let told = rw c.unwrap-verdict.ensures at agreed.verdict.checked in
     let filled = told.3 in
+    let sound : Sound c.args.draft = subst Sound agreed.sheet c.accept-accepted.ensures.sound in
+    let integers = c.accept-accepted.ensures.exact c.args.draft sound (given c.args.readings) c.requires.small_values c.requires.small_rates _ _ told.2 filled in
     let counted = told.1 ∙ c.requires.potentials in
     record {
       netlist = record { placed = agreed.readings.placed; potentials = agreed.readings.agree; redrawn = agreed.plant.agree };
@@ -26,6 +29,7 @@ returns c =
         redrawn = agreed.plant.verdicts _ c.unwrap-verdict.ensures;
         counted = search rules;
         filled = search rules;
+        integers = search rules;
       };
       printed = rw agreed.sheet at c.in_ok-print_accepted.ensures;
     }
