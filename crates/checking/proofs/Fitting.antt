@@ -15,7 +15,8 @@ use Rattle.netlist.specs.Sound.{Sound}
 use Rattle.network.specs.Readings.{Readings}
 use Rattle.network.specs.Walks.{Network, row_at, no_row, tail_of, head_of}
 use Rattle.readings.proofs.Drawing.{sound_drawn}
-use Rattle.walk_test.specs.Drawn.{is_drawn, first_undrawn, undrawn, judged}
+use Rattle.walk_test.specs.Drawn.{first_undrawn, undrawn, judged}
+use Rattle.netlist.specs.Rows.{stands_on}
 use Rattle.walk_test.specs.declared.findings.Finding.{Finding}
 use Rattle.walk_test.specs.declared.findings.Misfit.{Misfit}
 use Rattle.walk_test.specs.Tested.{Tested}
@@ -33,7 +34,7 @@ each_node b r potentials e = grind (arith, nat_tests)
 pub one_each : {G : Type 0} (b : Netlist) (r : Readings G) (potentials : ℕ) → Ok tt ≡ answer {X = Unit {0}} (judge_check b r potentials) tt → potentials ≡ length b.domains
 one_each b r potentials e = each_node b r potentials (accepted _ e)
 
-ends_drawn : (n : ℕ) (row : Row ℕ) → (tail_of row < n + 1) × (head_of row < n + 1) → not (is_drawn n row) ≡ false
+ends_drawn : (n : ℕ) (row : Row ℕ) → (tail_of row < n + 1) × (head_of row < n + 1) → not (stands_on n row) ≡ false
 ends_drawn n (Branch flow across first second) e = grind (arith, nat_tests, e.0, e.1)
 ends_drawn n (Earth flow across node) e = grind (arith, nat_tests, e.0)
 
@@ -42,7 +43,7 @@ module _ (b : Netlist) (sound : Sound b) where
   all_drawn None e = refl
   all_drawn (Some j) e =
       let n = length b.domains in
-      let first = position-Some (λ row. not (is_drawn n row)) b.rows j no_row e in
+      let first = position-Some (λ row. not (stands_on n row)) b.rows j no_row e in
       absurd (true≢false (sym first.1 ∙ ends_drawn n (row_at b.rows j) (sound_drawn b sound j first.0)))
 
   sound_judged : judged b.rows (length b.domains) ≡ Ok tt

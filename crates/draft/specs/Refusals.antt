@@ -1,4 +1,4 @@
--- The number and the place of each refusal of a draft's calls. The cause is always 0.
+-- The number, the place and the cause of each refusal of a draft's calls.
 use Rattle.std.specs.Prelude.{ℕ}
 use Rattle.draft.specs.declared.refusals.Argument.{Argument}
 use Rattle.draft.specs.declared.refusals.Argument.TheVariants.{Domain as DomainNumber, Flow, Across}
@@ -47,3 +47,13 @@ place_of (Taken at) = argument_number at
 place_of (Coefficient term) = term
 place_of TermCount = 0
 place_of (Order term) = term
+
+abbrev pub cause_of : DraftRefusal → ℕ
+cause_of (Limit table) = 0
+cause_of (NoNode at) = 0
+cause_of (NoVariable at) = 0
+cause_of (Domain at) = 0
+cause_of (Taken at) = 0
+cause_of (Coefficient term) = 0
+cause_of TermCount = 0
+cause_of (Order term) = 0

@@ -1,7 +1,7 @@
 //! Why a call of a draft is refused.
 ghost use Rattle.std.specs.Prelude.{◌≡◌, Some};
 ghost use Rattle.refusal.specs.Text.{refusal_text};
-ghost use Rattle.draft.specs.Refusals.{number_of, place_of, table_number, argument_number};
+ghost use Rattle.draft.specs.Refusals.{number_of, place_of, cause_of, table_number, argument_number};
 
 use refusal::Refuses;
 use std::fmt;
@@ -84,7 +84,7 @@ impl Refuses for DraftRefusal {
 
     ghost place = { place_of };
 
-    ghost cause = { λ why. 0 };
+    ghost cause = { cause_of };
 
     fn number(&self) -> u32 {
         match self {
@@ -117,7 +117,7 @@ impl Refuses for DraftRefusal {
 }
 
 impl fmt::Display for DraftRefusal {
-    ghost output = { λ why. Some (refusal_text (number_of why) (place_of why) 0) };
+    ghost output = { λ why. Some (refusal_text (number_of why) (place_of why) (cause_of why)) };
 
     fn fmt<W: fmt::Write>(&self, f: &mut fmt::Formatter<W>) -> fmt::Result {
         self.tell(f)

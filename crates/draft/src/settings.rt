@@ -1,6 +1,6 @@
 //! What rows are judged on.
-ghost use Rattle.std.specs.Prelude.{◌≡◌, ℕ, ◌<◌, ◌≤◌, Bool, List, length, MatchOption, slice_index};
-ghost use Rattle.netlist.specs.Domains.{domain_number};
+ghost use Rattle.std.specs.Prelude.{◌≡◌, ℕ, ◌<◌, ◌≤◌, Bool, List, length, MatchOption};
+ghost use Rattle.sheet.specs.Asking.{HasDomain};
 
 use netlist::domains::Domain;
 
@@ -15,7 +15,7 @@ pub trait Setting {
     /// The domain of a node, if it is drawn.
     fn domain(&self, node: usize) -> Option<Domain>
         ensures { MatchOption result (length (domains self.now) ≤ node)
-            (λ d. (node < length (domains self.now)) × (slice_index (domains self.now) node ≡ domain_number d)) };
+            (HasDomain (domains self.now) node) };
 
     /// Whether a variable is taken, if it is drawn.
     fn is_taken(&self, variable: usize) -> Option<bool>

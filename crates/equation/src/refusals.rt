@@ -1,7 +1,7 @@
 //! Why equations are not listed or printed.
 ghost use Rattle.std.specs.Prelude.{◌≡◌, Some};
 ghost use Rattle.refusal.specs.Text.{refusal_text};
-ghost use Rattle.equation.specs.Refusals.{number_of};
+ghost use Rattle.equation.specs.Refusals.{number_of, place_of, cause_of};
 
 use refusal::Refuses;
 use spelling::WriteRefusal;
@@ -32,9 +32,9 @@ impl From<WriteRefusal> for EquationRefusal {
 impl Refuses for EquationRefusal {
     ghost number = { number_of };
 
-    ghost place = { λ why. 0 };
+    ghost place = { place_of };
 
-    ghost cause = { λ why. 0 };
+    ghost cause = { cause_of };
 
     fn number(&self) -> u32 {
         match self {
@@ -53,7 +53,7 @@ impl Refuses for EquationRefusal {
 }
 
 impl fmt::Display for EquationRefusal {
-    ghost output = { λ why. Some (refusal_text (number_of why) 0 0) };
+    ghost output = { λ why. Some (refusal_text (number_of why) (place_of why) (cause_of why)) };
 
     fn fmt<W: fmt::Write>(&self, f: &mut fmt::Formatter<W>) -> fmt::Result {
         self.tell(f)

@@ -9,9 +9,6 @@ use Rattle.netlist.specs.Pieces.{pieces}
 pub sum_cons : (n : ℕ) (ns : List ℕ) → sum (n ∷ ns) ≡ n + sum ns
 sum_cons n ns = sum_by-cons (λ m. m) n ns
 
-pub sum_push : (ns : List ℕ) (n : ℕ) → sum (ns ++ n ∷ []) ≡ sum ns + n
-sum_push ns n = omega (arith, sum_by-append (λ m. m) ns (n ∷ []))
-
 pub length_pieces : {X : Type 0} (ns : List ℕ) (ts : List X) → length (pieces ns ts) ≡ length ns
 length_pieces [] ts = refl
 length_pieces (n ∷ ns) ts = omega (arith, length_pieces ns (drop n ts))

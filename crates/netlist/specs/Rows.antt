@@ -1,5 +1,5 @@
 -- What a row names.
-use Rattle.std.specs.Prelude.{ℕ, ◌+◌, Bool, cond, List, [], ◌∷◌, ◌==◌, nat_lt}
+use Rattle.std.specs.Prelude.{ℕ, ◌+◌, Bool, cond, ◌&&◌, List, [], ◌∷◌, ◌==◌, nat_lt}
 use Rattle.netlist.specs.declared.rows.Row.{Row}
 use Rattle.netlist.specs.declared.rows.Row.TheVariants.{Branch, Earth}
 
@@ -26,3 +26,8 @@ uses (row ∷ rows) v = hits row v + uses rows v
 -- some row has the variable
 abbrev pub taken_by : List (Row ℕ) → ℕ → Bool
 taken_by rows v = nat_lt 0 (uses rows v)
+
+-- the row names none but the first n nodes
+abbrev pub stands_on : ℕ → Row ℕ → Bool
+stands_on n (Branch flow across first second) = nat_lt first n && nat_lt second n
+stands_on n (Earth flow across node) = nat_lt node n

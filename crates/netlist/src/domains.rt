@@ -1,7 +1,8 @@
-//! The physical domain of a node. Callers name one by its number, from 1 to 4.
+//! Physical domains. Callers name one by its number, from 1 to 4.
 ghost use Rattle.std.specs.Prelude.{◌≡◌};
 ghost use Rattle.netlist.specs.Domains.{domain_number, IsDomainOf};
 
+/// The physical domain of a node.
 #[derive(Clone, Copy, PartialEq, Eq, Debug)]
 pub enum Domain {
     Electrical,

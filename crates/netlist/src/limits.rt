@@ -1,11 +1,15 @@
 //! How much a netlist may have of each thing.
 
+/// There are at most so many nodes.
 pub const MAX_NODES: usize = 1000;
 
+/// There are at most so many variables.
 pub const MAX_VARIABLES: usize = 4000;
 
+/// There are at most so many rows.
 pub const MAX_ROWS: usize = 1500;
 
+/// There are at most so many laws.
 pub const MAX_LAWS: usize = 1500;
 
 /// All laws together have at most so many terms.

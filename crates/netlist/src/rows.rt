@@ -21,6 +21,7 @@ pub enum Row<N = usize> {
 }
 
 impl<N: Copy> Row<N> {
+    /// Its flow variable.
     pub fn flow(self) -> N
         ensures { result ≡ flow_of self }
     {
@@ -29,6 +30,7 @@ impl<N: Copy> Row<N> {
         }
     }
 
+    /// Its across variable.
     pub fn across(self) -> N
         ensures { result ≡ across_of self }
     {

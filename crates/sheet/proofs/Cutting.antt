@@ -12,10 +12,10 @@ use Rattle.netlist.specs.declared.terms.Term.{Term}
 use Rattle.netlist.specs.Domains.{domain_number}
 use Rattle.netlist.specs.Flags.{Marked}
 use Rattle.netlist.specs.Pieces.{pieces}
-use Rattle.netlist.specs.Rows.{bit, uses, flow_of, across_of}
+use Rattle.netlist.specs.Rows.{bit, uses, flow_of, across_of, stands_on}
 use Rattle.netlist.specs.Sound.{joins, names}
 use Rattle.netlist.proofs.Cuts.{sum_cons}
-use Rattle.sheet.specs.Steps.{has_only, stands_on}
+use Rattle.sheet.specs.Steps.{has_only}
 use Rattle.sheet.specs.Tiling.{lengths}
 use Rattle.sheet.proofs.Tiling.{Tiles, tiles_sum, tiles_take}
 

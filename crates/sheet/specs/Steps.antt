@@ -9,7 +9,7 @@ use Rattle.netlist.specs.declared.terms.Term.{Term}
 use Rattle.netlist.specs.Domains.{domain_number}
 use Rattle.netlist.specs.Limits.{most_nodes, most_variables, most_rows, most_laws, most_terms}
 use Rattle.netlist.specs.Netlist.{Netlist, term_count, with_nodes}
-use Rattle.netlist.specs.Rows.{flow_of, across_of, taken_by}
+use Rattle.netlist.specs.Rows.{flow_of, across_of, taken_by, stands_on}
 use Rattle.netlist.specs.Sound.{joins, names, is_sized, is_term_count}
 
 -- The number of the next entry of a table, if the step is made.
@@ -60,11 +60,6 @@ NamesNoMore old new = (n : ℕ) → list_all (names n) old ≡ true → list_all
 -- the row has variables below n alone
 abbrev pub has_only : ℕ → Row ℕ → Bool
 has_only n row = nat_lt (flow_of row) n && nat_lt (across_of row) n
-
--- the row stands on nodes below n alone
-abbrev pub stands_on : ℕ → Row ℕ → Bool
-stands_on n (Branch flow across first second) = nat_lt first n && nat_lt second n
-stands_on n (Earth flow across node) = nat_lt node n
 
 -- no row and no law has a variable from n on
 abbrev pub no_variable_from : Netlist → ℕ → Bool

@@ -1,6 +1,6 @@
--- The line above a list of equations: the word "equations", a blank, how many there are in decimal,
--- and a newline.
-use Rattle.std.specs.Prelude.{ℕ, List, ◌++◌, codes, decimal}
+-- The line above a list of equations: the word "equations", and how many there are.
+use Rattle.std.specs.Prelude.{ℕ, List, [], ◌∷◌, codes}
+use Rattle.spelling.specs.Numbers.{numbers_line}
 
 abbrev pub header_text : ℕ → List ℕ
-header_text equations = codes "equations " ++ (decimal equations ++ codes "\n")
+header_text equations = numbers_line (codes "equations") (equations ∷ [])

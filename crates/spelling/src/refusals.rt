@@ -1,7 +1,7 @@
 //! Why nothing is written.
 ghost use Rattle.std.specs.Prelude.{◌≡◌, Some};
 ghost use Rattle.refusal.specs.Text.{refusal_text};
-ghost use Rattle.spelling.specs.Refusals.{number_of};
+ghost use Rattle.spelling.specs.Refusals.{number_of, place_of, cause_of};
 
 use refusal::Refuses;
 use std::fmt;
@@ -16,9 +16,9 @@ pub enum WriteRefusal {
 impl Refuses for WriteRefusal {
     ghost number = { number_of };
 
-    ghost place = { λ why. 0 };
+    ghost place = { place_of };
 
-    ghost cause = { λ why. 0 };
+    ghost cause = { cause_of };
 
     fn number(&self) -> u32 {
         match self {
@@ -36,7 +36,7 @@ impl Refuses for WriteRefusal {
 }
 
 impl fmt::Display for WriteRefusal {
-    ghost output = { λ why. Some (refusal_text (number_of why) 0 0) };
+    ghost output = { λ why. Some (refusal_text (number_of why) (place_of why) (cause_of why)) };
 
     fn fmt<W: fmt::Write>(&self, f: &mut fmt::Formatter<W>) -> fmt::Result {
         self.tell(f)

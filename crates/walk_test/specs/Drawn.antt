@@ -1,20 +1,16 @@
 -- Whether each node that rows name has a potential.
 use Rattle.std.specs.Prelude.{ℕ, Bool, not, ◌&&◌, nat_lt, if◌then◌else◌, List, position, Option, Some, None}
 use Rattle.std.specs.Prelude.{Result, Ok, Err}
+use Rattle.netlist.specs.Rows.{stands_on}
 use Rattle.netlist.specs.Limits.{most_nodes}
 use Rattle.netlist.specs.declared.rows.Row.{Row}
 use Rattle.netlist.specs.declared.rows.Row.TheVariants.{Branch, Earth}
 use Rattle.walk_test.specs.declared.findings.Misfit.{Misfit}
 use Rattle.walk_test.specs.declared.findings.Misfit.TheVariants.{TooMany, Undrawn}
 
--- the row names none but the first n nodes
-abbrev pub is_drawn : ℕ → Row ℕ → Bool
-is_drawn n (Branch flow across first second) = nat_lt first n && nat_lt second n
-is_drawn n (Earth flow across node) = nat_lt node n
-
 -- the lowest row that names another node
 abbrev pub first_undrawn : List (Row ℕ) → ℕ → Option ℕ
-first_undrawn rows n = position (λ row. not (is_drawn n row)) rows
+first_undrawn rows n = position (λ row. not (stands_on n row)) rows
 
 abbrev pub undrawn : Option ℕ → Result (Unit {0}) Misfit
 undrawn None = Ok tt

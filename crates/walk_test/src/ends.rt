@@ -1,7 +1,7 @@
 //! The vertices that a row leads between. Vertex 0 is the common earth point, and vertex n + 1 is node n.
 ghost use Rattle.std.specs.Prelude.{◌≡◌, ◌^◌, ◌<◌};
 ghost use Rattle.network.specs.Walks.{tail_of, head_of};
-ghost use Rattle.walk_test.specs.Drawn.{is_drawn};
+ghost use Rattle.netlist.specs.Rows.{stands_on};
 
 use netlist::rows::Row;
 
@@ -36,8 +36,8 @@ impl Ends {
 }
 
 // Whether the row names none but the first `nodes` nodes.
-pub(crate) fn is_drawn(row: Row, nodes: usize) -> bool
-    ensures { result ≡ is_drawn nodes row }
+pub(crate) fn stands_on(row: Row, nodes: usize) -> bool
+    ensures { result ≡ stands_on nodes row }
 {
     match row {
         Row::Branch { first, second, .. } => first < nodes && second < nodes,

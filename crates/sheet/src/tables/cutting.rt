@@ -1,7 +1,8 @@
 //! The steps that take back what came last.
 ghost use Rattle.std.specs.Prelude.{◌≡◌, ◌-◌, length, take};
 ghost use Rattle.std.specs.List.{list_all};
-ghost use Rattle.sheet.specs.Steps.{has_only, stands_on, no_variable_from, no_node_from, left_variables, left_nodes};
+ghost use Rattle.sheet.specs.Steps.{has_only, no_variable_from, no_node_from, left_variables, left_nodes};
+ghost use Rattle.netlist.specs.Rows.{stands_on};
 
 use crate::tables::Tables;
 use netlist::rows::Row;
