@@ -8,7 +8,7 @@ use Rattle.layers.specs.declared.halves.Halves.{Halves}
 use Rattle.layers.specs.declared.renumbering.Renumbering.{Renumbering}
 use Rattle.layers.specs.Renumbered.{moved_rows, moved_laws}
 use Rattle.layers.specs.Joined.{joined_rows, joined_laws}
-use Rattle.layers.specs.Two.{layer_of_two, both_sizes, SmallHalves, Halved, Tells, Joins}
+use Rattle.layers.specs.Two.{layer_of_two, both_sizes, SmallHalves, Halved, Joins, ToldHalves}
 use Rattle.layers.proofs.Laws.{kept_lengths, joined_lengths}
 use Rattle.layers.proofs.Small.{size_with, bounded}
 
@@ -29,7 +29,7 @@ module _ {joints : ℕ} {whole : Plan → Plan → Plan} {front back : Size → 
       (λ i. size_with (layout.ends a b p q i) (layout.inner a b p q i) (layout.variables a b i) (rows i) (laws i))
 
   -- Where the ends meet, the code's count of the whole decides.
-  judged : (meet : Meaning → Meaning → Bool) (a b : Plan) → Bounded a → Bounded b → meet (plan a) (plan b) ≡ true → (r : Option Halves) → SmallHalves joints (size_in a) (size_in b) r → Tells meet whole (plan a) (plan b) r
+  judged : (meet : Meaning → Meaning → Bool) (a b : Plan) → Bounded a → Bounded b → meet (plan a) (plan b) ≡ true → (r : Option Halves) → SmallHalves joints (size_in a) (size_in b) r → ToldHalves meet whole (plan a) (plan b) r
   judged meet a b p q e None large =
       let small : is_small (size_in (whole a b)) ≡ false = ap is_small (size_in_layout a b p q) ∙ large in
       rw (e, small) refl
@@ -44,7 +44,7 @@ module _ {joints : ℕ} {whole : Plan → Plan → Plan} {front back : Size → 
         second_bounds = q;
       }
 
-  pub halved : (meet : Meaning → Meaning → Bool) (m n : Meaning) {x y : Size} (r : Option Halves) → Some x ≡ size_of m → Some y ≡ size_of n → Proper m → Proper n → meet m n ≡ true → SmallHalves joints x y r → Tells meet whole m n r
+  pub halved : (meet : Meaning → Meaning → Bool) (m n : Meaning) {x y : Size} (r : Option Halves) → Some x ≡ size_of m → Some y ≡ size_of n → Proper m → Proper n → meet m n ≡ true → SmallHalves joints x y r → ToldHalves meet whole m n r
   halved meet void n r ex ey p q e is = absurd (cc)
   halved meet (plan a) void r ex ey p q e is = absurd (cc)
   halved meet (plan a) (plan b) {x} {y} r ex ey p q e is =
@@ -59,11 +59,11 @@ size_where false p e = absurd (cc)
 
 module _ (meet : Meaning → Meaning → Bool) (whole : Plan → Plan → Plan) (m n : Meaning) where
   -- What a layer knows, once it has the sizes or none.
-  pub known : {r : Option Halves} (h : Halves) → Tells meet whole m n r → r ≡ Some h → Halved meet whole m n h
-  known h t e = subst (Tells meet whole m n) e t
+  pub known : {r : Option Halves} (h : Halves) → ToldHalves meet whole m n r → r ≡ Some h → Halved meet whole m n h
+  known h t e = subst (ToldHalves meet whole m n) e t
 
-  pub known_void : {r : Option Halves} → Tells meet whole m n r → r ≡ None → layer_of_two meet whole m n ≡ void
-  known_void t e = subst (Tells meet whole m n) e t
+  pub known_void : {r : Option Halves} → ToldHalves meet whole m n r → r ≡ None → layer_of_two meet whole m n ≡ void
+  known_void t e = subst (ToldHalves meet whole m n) e t
 
 -- What holds of two plans and their whole holds of the parts and the layer.
 pub by_halves : (meet : Meaning → Meaning → Bool) (whole : Plan → Plan → Plan) (P : Meaning → Meaning → Meaning → Size → Size → Size → Type 0) → ((a b : Plan) → Bounded a → Bounded b → is_small (size_in (whole a b)) ≡ true → P (plan a) (plan b) (plan (whole a b)) (size_in a) (size_in b) (size_in (whole a b))) → {m n : Meaning} {h : Halves} → Halved meet whole m n h → P m n (layer_of_two meet whole m n) h.first h.second h.whole

@@ -66,8 +66,8 @@ pub record Halved (meet : Meaning → Meaning → Bool) (whole : Plan → Plan �
   pub second_bounds : Proper n
 
 -- What a layer of two parts knows of them: that it is void, or what it and they have.
-abbrev pub Tells : (Meaning → Meaning → Bool) → (Plan → Plan → Plan) → Meaning → Meaning → Option Halves → Type 0
-Tells meet whole m n r = MatchOption r (layer_of_two meet whole m n ≡ void) (Halved meet whole m n)
+abbrev pub ToldHalves : (Meaning → Meaning → Bool) → (Plan → Plan → Plan) → Meaning → Meaning → Option Halves → Type 0
+ToldHalves meet whole m n r = MatchOption r (layer_of_two meet whole m n ≡ void) (Halved meet whole m n)
 
 -- The layer w is that of the parts m and n, and its rows and laws are theirs, with these new numbers.
 pub record Joins (meet : Meaning → Meaning → Bool) (whole : Plan → Plan → Plan) (m n w : Meaning) (h : Halves)

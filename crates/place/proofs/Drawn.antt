@@ -30,10 +30,10 @@ one_more {X} {Y} f old xs k x at =
 
 module _ {X : Type 0} (b : Netlist) (xs : List X) (k : ℕ) (x : X) (at : slice_get xs k ≡ Some x) where
   pub node_more : (f : X → ℕ) → with_nodes (with_nodes b (map f (take k xs))) (f x ∷ []) ≡ with_nodes b (map f (take (k + 1) xs))
-  node_more f = λ i. record { domains = one_more f b.domains xs k x at i; variables = b.variables; rows = b.rows; laws = b.laws }
+  node_more f = λ i. record b { domains = one_more f b.domains xs k x at i }
 
   pub row_more : (f : X → Row ℕ) → with_rows (with_rows b (map f (take k xs))) (f x ∷ []) ≡ with_rows b (map f (take (k + 1) xs))
-  row_more f = λ i. record { domains = b.domains; variables = b.variables; rows = one_more f b.rows xs k x at i; laws = b.laws }
+  row_more f = λ i. record b { rows = one_more f b.rows xs k x at i }
 
 -- where nothing is refused, neither is the first nor the rest
 nothing : (f : DraftRefusal → PlaceRefusal) (o : Option DraftRefusal) (p : Option PlaceRefusal) → option_or (option_map f o) p ≡ None → (o ≡ None) × (p ≡ None)
@@ -46,12 +46,12 @@ row_passed b j [] k row h at = let z : ◌≡◌ {A = ℕ} 0 1 = cc in absurd (o
 row_passed b j (r ∷ rows) zero row h at =
     let p = nothing (λ why. RowRefused j why) _ _ h in
     let e : r ≡ row = cc in
-    ap (λ (rows : List (Row ℕ)). first_of (table_row (record { domains = b.domains; variables = b.variables; rows = rows; laws = b.laws }) row)) (append-nil b.rows)
+    ap (λ (rows : List (Row ℕ)). first_of (table_row (record b { rows = rows }) row)) (append-nil b.rows)
     ∙ ap (λ (s : Row ℕ). first_of (table_row b s)) (sym e)
     ∙ p.0
 row_passed b j (r ∷ rows) (suc k) row h at =
     let p = nothing (λ why. RowRefused j why) _ _ h in
-    ap (λ (rows : List (Row ℕ)). first_of (table_row (record { domains = b.domains; variables = b.variables; rows = rows; laws = b.laws }) row)) (sym (append_assoc b.rows (r ∷ []) (take k rows)))
+    ap (λ (rows : List (Row ℕ)). first_of (table_row (record b { rows = rows }) row)) (sym (append_assoc b.rows (r ∷ []) (take k rows)))
     ∙ row_passed (with_rows b (r ∷ [])) (j + 1) rows k row p.1 at
 
 pub row_drawn : (b : Netlist) (row : Row ℕ) → first_of (table_row b row) ≡ None → length b.rows < most_rows → judge_row b row ≡ None
@@ -101,4 +101,4 @@ module _ (b : Netlist) (f : List (RawTerm ℕ) → List (RawTerm ℕ)) (same : (
   law_more =
       let laws = append_assoc b.laws new (map term_of (f x) ∷ [])
       ∙ ap (λ (ls : List (List Term)). b.laws ++ ls) (sym (ap (λ (ls : List (List (RawTerm ℕ))). map (map term_of) (map f ls)) (take_place xs k x at) ∙ ap (map (map term_of)) (map_push f (take k xs) x) ∙ map_push (map term_of) (map f (take k xs)) (f x))) in
-      λ i. record { domains = b.domains; variables = b.variables; rows = b.rows; laws = laws i }
+      λ i. record b { laws = laws i }

@@ -39,7 +39,7 @@ module _ (b : Netlist) (sound : Sound b) (first second : ℕ) where
   there : (ends inner : List Domain) (n : ℕ) (rows : List (Row ℕ)) → length ends ≡ 2
       → first_of (drawn_tests b.domains 0 (first ∷ second ∷ []) ++ end_tests b.domains 0 ends (first ∷ second ∷ [])) ≡ None
       → judge_rows (record { domains = map domain_number (ends ++ inner); variables = n; rows = []; laws = [] }) 0 rows
-      ≡ judge_rows (record { domains = b.domains ++ map domain_number inner; variables = b.variables + n; rows = b.rows; laws = b.laws }) 0 (map (moved_row (length b.domains) b.variables (first ∷ second ∷ [])) rows)
+      ≡ judge_rows (record b { domains = b.domains ++ map domain_number inner; variables = b.variables + n }) 0 (map (moved_row (length b.domains) b.variables (first ∷ second ∷ [])) rows)
   there [] inner n rows two h = absurd (omega (arith, two))
   there (d ∷ []) inner n rows two h = absurd (omega (arith, two))
   there (d ∷ e ∷ []) inner n rows two h =

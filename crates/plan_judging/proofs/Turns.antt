@@ -24,7 +24,7 @@ take_place {X} xs k x h =
 
 -- a netlist with these rows
 abbrev pub with_them : Netlist → List (Row ℕ) → Netlist
-with_them b rows = record { domains = b.domains; variables = b.variables; rows = rows; laws = b.laws }
+with_them b rows = record b { rows = rows }
 
 module _ (b : Netlist) (rows : List (Row ℕ)) (k : ℕ) (row : Row ℕ) (at : slice_get rows k ≡ Some row) where
   turn : judge_rows (with_them b (take k rows)) k (drop k rows) ≡ judge_rows (with_them b (take k rows)) k (row ∷ drop (k + 1) rows)

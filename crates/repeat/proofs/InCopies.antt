@@ -19,7 +19,7 @@ use Rattle.layers.proofs.Laws.{mapped_length, moved_terms, no_terms, kept_length
 use Rattle.layers.proofs.Small.{size_with, small_bounds, small_from, bounded}
 use Rattle.repeat.specs.declared.copies.Copies.{Copies}
 use Rattle.repeat.specs.declared.copies.Spot.{Spot}
-use Rattle.repeat.specs.Repeat.{in_turn, copy_place, in_copies, is_count, meet, repeated, times_size, SmallCopies, Copied, Tells, IsSpot}
+use Rattle.repeat.specs.Repeat.{in_turn, copy_place, in_copies, is_count, meet, repeated, times_size, SmallCopies, Copied, IsSpot, ToldCopies}
 use Rattle.repeat.proofs.Turns.{length_turns, nth_spot, nth_copy, nth_no_copy, turn_le}
 
 -- A part has one second end.
@@ -61,7 +61,7 @@ not_small_times (suc k) a f = go (is_small (times_size (suc k) a)) refl
     go false e = and_right (is_count (suc k)) _ e
 
 -- Where the ends meet, the code's counts decide.
-judged : (n : ℕ) (a : Plan) → Bounded a → meet (plan a) ≡ true → (r : Option Copies) → SmallCopies n (size_in a) r → Tells n (plan a) r
+judged : (n : ℕ) (a : Plan) → Bounded a → meet (plan a) ≡ true → (r : Option Copies) → SmallCopies n (size_in a) r → ToldCopies n (plan a) r
 judged n a p e None large =
     let counts : (is_count n && is_small (size_in (in_copies n a))) ≡ false = ap (λ z. is_count n && is_small z) (size_in_copies n a p) ∙ large in
     rw (e, counts) refl
@@ -75,15 +75,15 @@ judged n a p e (Some c) are =
       part_bounds = p;
     }
 
-pub copied : (n : ℕ) (m : Meaning) {x : Size} (r : Option Copies) → Some x ≡ size_of m → Proper m → meet m ≡ true → SmallCopies n x r → Tells n m r
+pub copied : (n : ℕ) (m : Meaning) {x : Size} (r : Option Copies) → Some x ≡ size_of m → Proper m → meet m ≡ true → SmallCopies n x r → ToldCopies n m r
 copied n void r ex p e are = absurd (cc)
 copied n (plan a) {x} r ex p e are =
     let x_is : x ≡ size_in a = cc in
     judged n a p e r (subst (λ u. SmallCopies n u r) x_is are)
 
 -- What a layer knows, once it has the sizes.
-pub known : (n : ℕ) (m : Meaning) {r : Option Copies} (c : Copies) → Tells n m r → r ≡ Some c → Copied n m c
-known n m c t e = subst (Tells n m) e t
+pub known : (n : ℕ) (m : Meaning) {r : Option Copies} (c : Copies) → ToldCopies n m r → r ≡ Some c → Copied n m c
+known n m c t e = subst (ToldCopies n m) e t
 
 -- What holds of a plan and its copies holds of the part and the layer.
 pub by_copies : (n : ℕ) (P : Meaning → Meaning → Size → ℕ → Size → Type 0) → ((a : Plan) → Bounded a → is_small (size_in (in_copies n a)) ≡ true → P (plan a) (plan (in_copies n a)) (size_in a) n (size_in (in_copies n a))) → {m : Meaning} {c : Copies} → Copied n m c → P m (repeated n m) c.part c.times c.whole

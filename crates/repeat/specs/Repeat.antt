@@ -85,8 +85,8 @@ pub record Copied (n : ℕ) (m : Meaning) (c : Copies) : Type 0 where
   pub part_bounds : Proper m
 
 -- What a layer of copies knows of the part: that it is void, or what it and one copy have.
-abbrev pub Tells : ℕ → Meaning → Option Copies → Type 0
-Tells n m r = MatchOption r (repeated n m ≡ void) (Copied n m)
+abbrev pub ToldCopies : ℕ → Meaning → Option Copies → Type 0
+ToldCopies n m r = MatchOption r (repeated n m ≡ void) (Copied n m)
 
 -- Place k of n lists of one length is a place of one of them.
 pub record IsSpot (len n k : ℕ) (s : Spot) : Type 0 where

@@ -7,7 +7,8 @@
 
 ghost use Rattle.std.specs.Prelude.{◌≡◌};
 ghost use Rattle.layers.specs.Told.{told};
-ghost use Rattle.repeat.specs.Repeat.{repeated, Tells};
+ghost use Rattle.repeat.specs.Repeat.{repeated};
+ghost use Rattle.repeat.specs.Repeat.{ToldCopies};
 
 pub mod copies;
 pub mod sizes;
@@ -24,12 +25,12 @@ pub struct Repeat<A: Assembly> {
     part: A,
     times: usize,
     sizes: Option<Copies>,
-    ghost known: { Tells times (A.Assembly.meaning part) sizes } by { Prim.hlevel told },
+    ghost known: { ToldCopies times (A.Assembly.meaning part) sizes } by { Prim.hlevel told },
 }
 
 /// What a copy and the layer have, or `None` where the layer is void. Asks for a size and two domains.
 pub fn copies_of<A: Assembly>(part: &A, times: usize) -> Option<Copies>
-    ensures { Tells times (A.Assembly.meaning part.now) result }
+    ensures { ToldCopies times (A.Assembly.meaning part.now) result }
 {
     let size = part.size()?;
     if !same_domain(part.domain(0), part.domain(1)) {

@@ -6,7 +6,7 @@ use Rattle.layers.specs.declared.halves.Halves.{Halves}
 use Rattle.layers.specs.declared.renumbering.Renumbering.{Renumbering}
 use Rattle.layers.specs.Renumbered.{moved_rows, moved_laws}
 use Rattle.layers.specs.Layer.{same_domain, domain_at, first_end, second_end}
-use Rattle.layers.specs.Two.{layer_of_two, Tells, front_between, back_between}
+use Rattle.layers.specs.Two.{layer_of_two, front_between, back_between, ToldHalves}
 
 -- The joint is the layer's last inner node, behind the inner nodes of both parts.
 abbrev pub joint : Size → Size → ℕ
@@ -41,4 +41,4 @@ series = layer_of_two meet in_series
 
 -- What a series knows of its parts: that it is void, or what it and they have.
 abbrev pub Knows : Meaning → Meaning → Option Halves → Type 0
-Knows = Tells meet in_series
+Knows = ToldHalves meet in_series

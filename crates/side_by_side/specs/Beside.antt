@@ -6,7 +6,7 @@ use Rattle.layers.specs.declared.halves.Halves.{Halves}
 use Rattle.layers.specs.declared.renumbering.Renumbering.{Renumbering}
 use Rattle.layers.specs.Renumbered.{moved_rows, moved_laws}
 use Rattle.layers.specs.Layer.{same_domain, domain_at}
-use Rattle.layers.specs.Two.{layer_of_two, Tells, front_between, back_between}
+use Rattle.layers.specs.Two.{layer_of_two, front_between, back_between, ToldHalves}
 
 -- The ends stay where they are. The one part's other things come first.
 abbrev pub front_place : Size → Size → Renumbering
@@ -37,4 +37,4 @@ beside = layer_of_two meet in_parallel
 
 -- What parts side by side let the layer know: that it is void, or what it and they have.
 abbrev pub Knows : Meaning → Meaning → Option Halves → Type 0
-Knows = Tells meet in_parallel
+Knows = ToldHalves meet in_parallel

@@ -1,6 +1,6 @@
 -- What a node means, from what its children mean, and what it knows of them.
 use Rattle.std.specs.Prelude.{◌+◌, max}
-use Rattle.layers.specs.Two.{Tells}
+use Rattle.layers.specs.Two.{ToldHalves}
 use Rattle.parts.specs.Held.{held}
 use Rattle.parts.specs.Single.{single}
 use Rattle.repeat.specs.Repeat.{repeated}
@@ -22,5 +22,5 @@ seen (Repeat part times sizes) = record { meaning = repeated times part.value.me
 abbrev pub Keeps : Node → Type 0
 Keeps (Stored plan) = Unit {0}
 Keeps (Single part) = Unit {0}
-Keeps (Two way first second sizes) = Tells (meet_by way) (whole_by way) first.value.meaning second.value.meaning sizes
-Keeps (Repeat part times sizes) = of_copies.Tells times part.value.meaning sizes
+Keeps (Two way first second sizes) = ToldHalves (meet_by way) (whole_by way) first.value.meaning second.value.meaning sizes
+Keeps (Repeat part times sizes) = of_copies.ToldCopies times part.value.meaning sizes
