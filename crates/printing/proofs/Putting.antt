@@ -1,5 +1,5 @@
 -- What stands at the front of a buffer once something is printed into it.
-use Rattle.std.proofs.Common.{◌≡◌, ℕ, ◌^◌, ◌<◌, ◌≤◌, List, ◌++◌, length, take, drop, Ok, None, Result, Option, ap, ◌∙◌, codes, decimal, arith}
+use Rattle.std.proofs.Common.{◌≡◌, ℕ, ◌^◌, ◌<◌, ◌≤◌, List, [], ◌++◌, length, take, drop, Ok, None, Result, Option, ap, ◌∙◌, codes, decimal, arith}
 use Rattle.std.proofs.Math.Seq.{take-append_seam}
 use Rattle.std.proofs.lemmas.Bool.Decides.{nat_tests}
 use Rattle.std.proofs.lemmas.Fmt.{length-decimal-le}
@@ -29,4 +29,5 @@ text_front text old new r h a f = front old text new r (judge_text old text) (te
 
 pub header_short : (n : ℕ) → n < 2 ^ 64 → length (header_text n) ≤ 31
 header_short n h =
-    omega (arith, length-decimal-le 20 n (omega arith) (omega arith) h, length-append (codes "equations ") (decimal n ++ codes "\n"), length-append (decimal n) (codes "\n"))
+    let number = codes " " ++ decimal n in
+    omega (arith, length-decimal-le 20 n (omega arith) (omega arith) h, length-append (codes "equations") ((number ++ []) ++ codes "\n"), length-append (number ++ []) (codes "\n"), length-append number [], length-append (codes " ") (decimal n))

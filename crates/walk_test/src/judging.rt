@@ -2,7 +2,7 @@
 ghost use Rattle.std.specs.Prelude.{◌≡◌};
 ghost use Rattle.walk_test.specs.Drawn.{first_undrawn, judged};
 
-use crate::ends::is_drawn;
+use crate::ends::stands_on;
 use crate::findings::Misfit;
 use netlist::limits::MAX_NODES;
 use netlist::rows::Row;
@@ -11,7 +11,7 @@ use netlist::rows::Row;
 fn first_undrawn(rows: &[Row], nodes: usize) -> Option<usize>
     ensures { result ≡ first_undrawn rows.now nodes }
 {
-    rows.iter().position(|row| !is_drawn(*row, nodes))
+    rows.iter().position(|row| !stands_on(*row, nodes))
 }
 
 pub(crate) fn judge(rows: &[Row], nodes: usize) -> Result<(), Misfit>
