@@ -10,7 +10,7 @@ use Rattle.equation.specs.Equations.{equations_of}
 use Rattle.equation.specs.Listing.{spans_from, answer_equations}
 use Rattle.equation.specs.Placed.{Placed}
 use Rattle.readings.proofs.Agreeing.{equations_agree}
-use Rattle.likeness.proofs.Agreeing.{plants_agree}
+use Rattle.likeness.proofs.Agreeing.{alike_agree}
 use Rattle.checking.specs.declared.refusals.CheckRefusal.{CheckRefusal}
 use Rattle.checking.specs.declared.verdicts.Verdict.{Verdict}
 use Rattle.checking.specs.declared.verdicts.Verdict.TheVariants.{Holds}
@@ -35,9 +35,9 @@ module _ {G : Type 0} (𝓖 : Group G) (b : Netlist) (r : Readings G) where
 
   plant_stays : (old new : List G) (a : Acceptance) → Checked 𝓖 b r old new a.checked → PlantAgrees 𝓖 b r a
   plant_stays old new a h = record {
-    agree = λ x c s same. plants_agree 𝓖 b c same.alike x s same.read_alike;
+    agree = λ x c s same. alike_agree 𝓖 b c same.alike x s same.read_alike;
     verdicts = λ u e c s same v is.
-        let both = plants_agree 𝓖 b c same.alike r s same.read_alike in
+        let both = alike_agree 𝓖 b c same.alike r s same.read_alike in
         let here = verdict_is old new a.checked h u e in (
           λ holds. one_verdict 𝓖 c s v Holds is (both.0 (subst (VerdictIs 𝓖 b r) holds here)),
           λ holds. one_verdict 𝓖 b r u Holds here (both.1 (subst (VerdictIs 𝓖 c s) holds is)),

@@ -12,7 +12,7 @@ use Rattle.network.specs.ReadingsAgree.{ReadingsAgree}
 use Rattle.network.specs.Flows.{SetsKeep}
 use Rattle.network.specs.Laws.{LawsHold}
 use Rattle.network.specs.Walks.{WalksClose, read, no_row, row_at, tail_of, head_of, network_of}
-use Rattle.likeness.specs.Agreeing.{ListedAlike, ReadAlike, PlantsAgree, PartsAgree}
+use Rattle.likeness.specs.Agreeing.{ListedAlike, ReadAlike, AlikeAgree, PartsAgree}
 use Rattle.likeness.proofs.Listing.{all_at, all_weaker, all_both, all_of_flat, place_of}
 use Rattle.likeness.proofs.Renaming.{of_row, of_law, vertex, tail_renamed, head_renamed, across_renamed}
 use Rattle.likeness.proofs.Occurring.{by_rows, by_laws}
@@ -72,8 +72,8 @@ module _ {G : Type 0} (𝓖 : Group G) where
   turned : (b c : Netlist) (s : Alike b c) (r r' : Readings G) → ReadAlike 𝓖 b s.there r r' → ReadAlike 𝓖 c (alike_back b c s).0.there r' r
   turned b c s r r' h = subst (λ to. ReadAlike 𝓖 c to r' r) (sym (alike_back b c s).1) (read_back 𝓖 b c s r r' h)
 
-  pub plants_agree : PlantsAgree 𝓖
-  plants_agree b c s r r' h = (
+  pub alike_agree : AlikeAgree 𝓖
+  alike_agree b c s r r' h = (
     agree_back 𝓖 c b (alike_back b c s).0 r' r (turned b c s r r' h),
     agree_back 𝓖 b c s r r' h,
   )

@@ -22,8 +22,8 @@ pub record ReadAlike {G : Type 0} (𝓖 : Group G) (b : Netlist) (there : Renami
   pub rates : ListedAlike 𝓖 b there r.rates r'.rates
 
 -- THEOREM: readings agree with a netlist exactly if those that are read alike agree with a netlist that is alike
-abbrev pub PlantsAgree : {G : Type 0} → Group G → Type 0
-PlantsAgree {G} 𝓖 =
+abbrev pub AlikeAgree : {G : Type 0} → Group G → Type 0
+AlikeAgree {G} 𝓖 =
     (b c : Netlist) (s : Alike b c) (r r' : Readings G) → ReadAlike 𝓖 b s.there r r'
     → ReadingsAgree 𝓖 b r ↔ ReadingsAgree 𝓖 c r'
 

@@ -2,7 +2,7 @@
 //! every kind of quantity. Each is the contract of a function, which computes nothing.
 #![tactic(auto)]
 
-ghost use Rattle.likeness.specs.Agreeing.{PlantsAgree, PartsAgree, ReadItself, ReadBack, ReadOnward};
+ghost use Rattle.likeness.specs.Agreeing.{AlikeAgree, PartsAgree, ReadItself, ReadBack, ReadOnward};
 ghost use Rattle.likeness.specs.Turning.{AlikeItself, AlikeBack, AlikeOnward};
 
 use quantity::Quantity;
@@ -22,8 +22,8 @@ pub fn readings_turn<K: Quantity>()
 {}
 
 /// Readings agree with a netlist exactly if those that are read alike agree with a netlist that is alike.
-pub fn plants_agree<K: Quantity>()
-    ensures { PlantsAgree K.Quantity.group }
+pub fn alike_agree<K: Quantity>()
+    ensures { AlikeAgree K.Quantity.group }
 {}
 
 /// And so it is with each part of that: laws, sets of nodes and closed walks.

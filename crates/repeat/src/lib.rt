@@ -50,7 +50,8 @@ impl<A: Assembly> Repeat<A> {
 
     /// Takes the layer apart. A layer over a part that may not be dropped ends so.
     pub fn into_part(self) -> (A, usize)
-        ensures { repeated result.1 (A.Assembly.meaning result.0) ≡ ⟦<Self as Assembly>⟧.meaning self }
+        ensures meaning { repeated result.1 (A.Assembly.meaning result.0) ≡ ⟦<Self as Assembly>⟧.meaning self }
+        ensures times { result.1 ≡ self.times }
     {
         let Repeat {
             part,
