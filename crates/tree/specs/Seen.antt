@@ -22,5 +22,6 @@ seen (Repeat part times sizes) = record { meaning = repeated times part.value.me
 abbrev pub Keeps : Node → Type 0
 Keeps (Stored plan) = Unit {0}
 Keeps (Single part) = Unit {0}
-Keeps (Two way first second sizes) = ToldHalves (meet_by way) (whole_by way) first.value.meaning second.value.meaning sizes
+Keeps (Two way first second sizes) =
+    ToldHalves (meet_by way) (whole_by way) first.value.meaning second.value.meaning sizes
 Keeps (Repeat part times sizes) = of_copies.ToldCopies times part.value.meaning sizes
