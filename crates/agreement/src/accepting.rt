@@ -37,8 +37,8 @@ pub struct Buffers<'a, K> {
     pub potentials: &'a mut [K],
 }
 
-/// Makes the calls on a draft, issues it, lists its equations into two buffers, and checks the readings. Of whole numbers
-/// from -2^40 to 2^40, the verdict and the potentials are those over the unbounded integers.
+/// Makes the calls on a draft, issues it, lists its equations into two buffers, and checks the readings. Of whole
+/// numbers from -2^40 to 2^40, the verdict and the potentials are those over the unbounded integers.
 pub fn accept<K: Quantity, A: Assembly>(
     mut draft: Draft,
     calls: &[Call<A>],

@@ -1,5 +1,5 @@
 //! Tests of sheet texts: a walk over a whole text, tables of lines with what is read from each, and tables of texts
-//! with what is drawn and printed of each.
+//! with what is drawn and printed of each. And a table of texts of readings, with what is read of each.
 #![tactic(auto)]
 
 #[cfg(test)]
@@ -8,6 +8,8 @@ mod faults;
 mod limits;
 #[cfg(test)]
 mod lines;
+#[cfg(test)]
+mod readings;
 #[cfg(test)]
 mod sheets;
 pub mod whole;
