@@ -1,5 +1,7 @@
 //! Readings as a text: a value and a rate for each variable.
 
+const LARGEST: i128 = 1 << 40;
+
 pub struct Readings {
     pub values: Vec<i64>,
     pub rates: Vec<i64>,
@@ -19,11 +21,14 @@ pub fn read(text: &[u8], variables: usize) -> Result<Readings, String> {
             let Some((value, rate)) = parse(line) else {
                 return Err(format!("readings fault {last}: not a value, a blank and a rate\n"));
             };
+            if value.abs() > LARGEST || rate.abs() > LARGEST {
+                return Err(format!("readings fault {last}: a number is not from -{LARGEST} to {LARGEST}\n"));
+            }
             if readings.values.len() == variables {
                 return Err(format!("readings fault {last}: more readings than variables\n"));
             }
-            readings.values.push(value);
-            readings.rates.push(rate);
+            readings.values.push(value as i64);
+            readings.rates.push(rate as i64);
         }
     }
     if readings.values.len() < variables {
@@ -32,12 +37,12 @@ pub fn read(text: &[u8], variables: usize) -> Result<Readings, String> {
     Ok(readings)
 }
 
-fn parse(line: &[u8]) -> Option<(i64, i64)> {
+fn parse(line: &[u8]) -> Option<(i128, i128)> {
     let blank = line.iter().position(|b| *b == b' ')?;
     Some((number(&line[..blank])?, number(&line[blank + 1..])?))
 }
 
-fn number(text: &[u8]) -> Option<i64> {
+fn number(text: &[u8]) -> Option<i128> {
     let (minus, digits) = match text {
         [b'-', rest @ ..] => (true, rest),
         _ => (false, text),
@@ -52,5 +57,5 @@ fn number(text: &[u8]) -> Option<i64> {
         }
         size = (size * 10 + i128::from(b - b'0')).min(1 << 70);
     }
-    i64::try_from(if minus { -size } else { size }).ok()
+    Some(if minus { -size } else { size })
 }

@@ -118,7 +118,7 @@ fn readings_of(dice: &mut Dice, sheet: &Sheet) -> Readings {
     let big = dice.one_in(8);
     let number = |dice: &mut Dice| -> i64 {
         if big {
-            dice.next() as i64 * if dice.one_in(2) { -4096 } else { 4096 }
+            (dice.next() >> 13) as i64 * if dice.one_in(2) { -2 } else { 2 }
         } else {
             dice.below(21) as i64 - 10
         }
