@@ -17,8 +17,8 @@ use Rattle.answering.specs.declared.faults.AnswerFault.{AnswerFault}
 use Rattle.answering.specs.declared.faults.AnswerFault.TheVariants.{Sheet, Readings as ReadingsAtFault}
 use Rattle.answering.specs.Answers.{accepted_text}
 
--- What holds of the netlist whatever is read of it: each of its equations is of one thing, some potentials satisfy
--- them all exactly if the readings agree, and readings agree however the plant is drawn.
+-- What holds of the netlist whatever is read of it: its equations have each row's flow where its ends are, some
+-- potentials satisfy them all exactly if the readings agree, and readings agree however the plant is drawn or never.
 pub record NetlistAgrees (c : Netlist) : Type 0 where
   pub placed : Placed c
   pub potentials : PotentialsAgree wholes c
