@@ -29,6 +29,7 @@ impl Dice {
 fn sheet_text(dice: &mut Dice, bad: usize) -> Vec<u8> {
     let mut text = Vec::new();
     let (mut nodes, mut variables, mut free) = (Vec::new(), 0usize, Vec::new());
+    let lawless = dice.one_in(2);
     for _ in 0..dice.below(40) + 1 {
         let wild = bad > 0 && dice.one_in(bad);
         let some = |dice: &mut Dice, n: usize| if wild { dice.below(n + 3) } else { dice.below(n) };
@@ -63,7 +64,7 @@ fn sheet_text(dice: &mut Dice, bad: usize) -> Vec<u8> {
                 let across = free.swap_remove(dice.below(free.len()));
                 writeln!(text, "E {flow} {across} {}", some(dice, nodes.len())).unwrap();
             }
-            9 if variables > 0 => {
+            9 if variables > 0 && !lawless => {
                 write!(text, "L").unwrap();
                 for _ in 0..dice.below(if wild { 10 } else { 4 }) + 1 {
                     let size = dice.below(if wild { 2_000_000 } else { 500 }) + usize::from(!wild);
@@ -81,7 +82,7 @@ fn sheet_text(dice: &mut Dice, bad: usize) -> Vec<u8> {
                     second = first;
                 }
                 let count = if wild { dice.below(1200) } else { dice.below(5) + 1 };
-                let mut c = || if dice.one_in(3) { 0 } else { dice.below(if wild { 3_000_000 } else { 90 }) };
+                let mut c = || if lawless || dice.one_in(3) { 0 } else { dice.below(if wild { 3_000_000 } else { 90 }) };
                 let (a, b, e, f) = (c(), c(), c(), c());
                 writeln!(text, "C {domain} {a} -{b} {e} {f} {count} {first} {second}").unwrap();
                 if let Ok(sheet) = read(&text) {
@@ -201,7 +202,7 @@ fn main() {
         }
         let Ok(sheet) = read(&text) else { continue };
         let mut readings = readings_of(&mut dice, &sheet);
-        if !readings.values.is_empty() && dice.one_in(3) {
+        if !readings.values.is_empty() && dice.one_in(2) {
             let at = dice.below(readings.values.len());
             readings.values[at] = readings.values[at].wrapping_add(1);
         }
