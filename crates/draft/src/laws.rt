@@ -33,7 +33,8 @@ fn accept_term(variables: usize, i: usize, raw: RawTerm) -> Result<Term, DraftRe
     })
 }
 
-/// The terms of a law over so many variables, in the first places of an array, which needs no memory.
+/// The terms of a law over so many variables, in the first places of an array, which needs no memory. The places behind
+/// them hold a term that adds nothing.
 pub fn accept_terms(variables: usize, terms: &[RawTerm]) -> Result<[Term; MOST_TERMS], DraftRefusal>
     ensures { Accepts (first_of (table_law variables terms.now)) (BeginsWith terms.now) result }
 {

@@ -13,5 +13,5 @@ unwrap-requires c =
     let ts = c.args.terms.now in
     let told = c.in_ok-law.ensures in
     let judged = ap (λ (b : Netlist). judge_law b ts) c.self.view_is ∙ told.0 in
-    let fits = ap (λ (law : List Term). law_fits b law) told.1.1 ∙ law_fits_passed b ts judged in
+    let fits = ap (λ (law : List Term). law_fits b law) told.1.front ∙ law_fits_passed b ts judged in
     ap is_some (c.add_law.ensures.answer ∙ ap (λ (fits : Bool). number_if fits (length b.laws)) fits)
