@@ -6,6 +6,7 @@ use netlist::domains::Domain;
 use repeat::Repeat;
 use series::Series;
 use side_by_side::SideBySide;
+use std::test::Fail;
 
 fn shaft() -> Coupler {
     Coupler {
@@ -162,4 +163,42 @@ fn nested_layers(rt: HostRuntime) {
             second: 6,
         })
     );
+}
+
+// What a layer answers, to compare.
+fn answers<A: Assembly>(layer: &A) -> (Option<Size>, Option<PlanRow>, Option<PlanTerm>) {
+    (layer.size(), layer.row(4), layer.term(1, 0))
+}
+
+fn lends<T: Send + Sync>(value: &T) -> &T {
+    value
+}
+
+#[test]
+fn layers_are_copied_and_cloned(rt: HostRuntime) -> Result<(), Fail> {
+    let chain = Repeat::new(shaft(), 2);
+    // The chain is used three times, the pair and the layer over it twice.
+    let pair = SideBySide::new(chain, Series::new(chain, shaft()));
+    let drive = Series::new(motor(), pair);
+    let copied = drive;
+    let cloned = drive.clone()?;
+    let size = Some(Size {
+        ends: 2,
+        inner: 10,
+        variables: 12,
+        rows: 12,
+        laws: 6,
+    });
+    let row = Some(PlanRow::Branch {
+        flow: 4,
+        across: 5,
+        first: 5,
+        second: 4,
+    });
+    let term = Some(PlanTerm::rate(5, 3));
+    assert_eq!(rt; answers(lends(&drive)), (size, row, term));
+    assert_eq!(rt; answers(&copied), (size, row, term));
+    assert_eq!(rt; answers(&cloned), (size, row, term));
+    assert_eq!(rt; pair.row(0), chain.row(0));
+    Ok(())
 }

@@ -3,3 +3,4 @@ pub mod Small
 pub mod Ends
 pub mod Halving
 pub mod Asked
+pub mod Once

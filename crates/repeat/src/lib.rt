@@ -18,6 +18,7 @@ use assembly::plans::{PlanRow, PlanTerm, Size};
 use copies::Copies;
 use layers::domains::same_domain;
 use netlist::domains::Domain;
+use std::alloc::AllocError;
 
 /// A part, how many copies of it, and what it told where the layer was made; `None` where the layer is void.
 #[derive(Drop)]
@@ -61,6 +62,25 @@ impl<A: Assembly> Repeat<A> {
         (part, times)
     }
 }
+
+/// A clone has a clone of the part as many times, and asks it anew. Where that is the part, it is the layer.
+impl<A: Assembly + Clone> Clone for Repeat<A> {
+    ghost is_clone = { λ s t. A.is_clone s.part t.part × (t.times ≡ s.times) × (t.part ≡ s.part → t ≡ s) };
+
+    ghost is_infallible = { λ s. A.is_infallible s.part };
+
+    fn clone(&self) -> Result<Self, AllocError> {
+        let part = self.part.clone()?;
+        let told = copies_of(&part, self.times);
+        Ok(Repeat {
+            part,
+            times: self.times,
+            sizes: told,
+        })
+    }
+}
+
+impl<A: Assembly + Copy> Copy for Repeat<A> {}
 
 impl<A: Assembly> Assembly for Repeat<A> {
     ghost meaning = { λ s. repeated s.times (A.Assembly.meaning s.part) };

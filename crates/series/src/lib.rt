@@ -17,6 +17,7 @@ use layers::halves::Halves;
 use layers::pair::Pair;
 use layers::renumbering::Renumbering;
 use netlist::domains::Domain;
+use std::alloc::AllocError;
 
 /// Two parts, and what they told where the layer was made; `None` where the layer is void.
 #[derive(Drop)]
@@ -103,6 +104,27 @@ impl<A: Assembly, B: Assembly> Series<A, B> {
         })
     }
 }
+
+/// A clone has clones of the parts, and asks them anew. Where they are the parts, it is the layer.
+impl<A: Assembly + Clone, B: Assembly + Clone> Clone for Series<A, B> {
+    ghost is_clone = { λ s t. A.is_clone s.first t.first × B.is_clone s.second t.second
+        × (t.first ≡ s.first → t.second ≡ s.second → t ≡ s) };
+
+    ghost is_infallible = { λ s. A.is_infallible s.first × B.is_infallible s.second };
+
+    fn clone(&self) -> Result<Self, AllocError> {
+        let first = self.first.clone()?;
+        let second = self.second.clone()?;
+        let told = halves(&first, &second);
+        Ok(Series {
+            first,
+            second,
+            sizes: told,
+        })
+    }
+}
+
+impl<A: Assembly + Copy, B: Assembly + Copy> Copy for Series<A, B> {}
 
 impl<A: Assembly, B: Assembly> Assembly for Series<A, B> {
     ghost meaning = { λ s. series (A.Assembly.meaning s.first) (B.Assembly.meaning s.second) };

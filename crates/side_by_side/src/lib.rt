@@ -16,6 +16,7 @@ use layers::halves::Halves;
 use layers::pair::Pair;
 use layers::renumbering::Renumbering;
 use netlist::domains::Domain;
+use std::alloc::AllocError;
 
 /// Two parts, and what they told where the layer was made; `None` where the layer is void.
 #[derive(Drop)]
@@ -98,6 +99,27 @@ impl<A: Assembly, B: Assembly> SideBySide<A, B> {
         })
     }
 }
+
+/// A clone has clones of the parts, and asks them anew. Where they are the parts, it is the layer.
+impl<A: Assembly + Clone, B: Assembly + Clone> Clone for SideBySide<A, B> {
+    ghost is_clone = { λ s t. A.is_clone s.one t.one × B.is_clone s.other t.other
+        × (t.one ≡ s.one → t.other ≡ s.other → t ≡ s) };
+
+    ghost is_infallible = { λ s. A.is_infallible s.one × B.is_infallible s.other };
+
+    fn clone(&self) -> Result<Self, AllocError> {
+        let one = self.one.clone()?;
+        let other = self.other.clone()?;
+        let told = halves(&one, &other);
+        Ok(SideBySide {
+            one,
+            other,
+            sizes: told,
+        })
+    }
+}
+
+impl<A: Assembly + Copy, B: Assembly + Copy> Copy for SideBySide<A, B> {}
 
 impl<A: Assembly, B: Assembly> Assembly for SideBySide<A, B> {
     ghost meaning = { λ s. beside (A.Assembly.meaning s.one) (B.Assembly.meaning s.other) };
