@@ -25,6 +25,11 @@ module _ {G : Type 0} (𝓖 : Group G) where
   sum_plus zero f h = sym (𝓖.neutral 𝓖.zero)
   sum_plus (suc n) f h = ap (λ x. 𝓖.sum x (𝓖.sum (f n) (h n))) (sum_plus n f h) ∙ swap_middle 𝓖 _ _ _ _
 
+  -- a table adds to the same by rows and by columns
+  pub sum_swap : (n m : ℕ) (f : ℕ → ℕ → G) → sum_below 𝓖 n (λ i. sum_below 𝓖 m (λ j. f i j)) ≡ sum_below 𝓖 m (λ j. sum_below 𝓖 n (λ i. f i j))
+  sum_swap zero m f = sym (sum_zero m)
+  sum_swap (suc n) m f = ap (λ x. 𝓖.sum x (sum_below 𝓖 m (f n))) (sum_swap n m f) ∙ sym (sum_plus m (λ j. sum_below 𝓖 n (λ i. f i j)) (f n))
+
   pub cond_zero : (b : Bool) → cond b 𝓖.zero 𝓖.zero ≡ 𝓖.zero
   cond_zero true = refl
   cond_zero false = refl
@@ -61,6 +66,10 @@ module _ {G : Type 0} (𝓖 : Group G) where
   cond_plus : (b : Bool) (x y : G) → cond b (𝓖.sum x y) 𝓖.zero ≡ 𝓖.sum (cond b x 𝓖.zero) (cond b y 𝓖.zero)
   cond_plus true x y = refl
   cond_plus false x y = sym (𝓖.neutral _)
+
+  pub cond_sum : (b : Bool) (m : ℕ) (f : ℕ → G) → cond b (sum_below 𝓖 m f) 𝓖.zero ≡ sum_below 𝓖 m (λ j. cond b (f j) 𝓖.zero)
+  cond_sum true m f = refl
+  cond_sum false m f = sym (sum_zero m)
 
   -- one row
   pub crossing_sum : (inside : ℕ → Bool) (n t h : ℕ) (x : G) → t < n → h < n → crossing 𝓖 (inside t) (inside h) x ≡ sum_below 𝓖 n (λ v. cond (inside v) (crossing 𝓖 (eqb t v) (eqb h v) x) 𝓖.zero)

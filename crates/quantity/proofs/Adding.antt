@@ -1,9 +1,9 @@
 -- Sums of lists.
-use Rattle.std.proofs.Common.{◌≡◌, ℕ, zero, suc, ◌<◌, List, [], ◌∷◌, ◌++◌, length, get_or, set, sym, refl, ap, ◌∙◌, ⊎_elim, arith, length-set}
+use Rattle.std.proofs.Common.{◌≡◌, ℕ, zero, suc, ◌+◌, ◌<◌, ◌≤◌, List, [], ◌∷◌, ◌++◌, length, get_or, drop, set, sym, refl, ap, ◌∙◌, ⊎_elim, arith, length-set}
 use Rattle.std.specs.List.{fold}
 use Rattle.std.specs.List.Sorted.{IsPermutation}
 use Rattle.std.proofs.lemmas.List.Edits.{swap_is}
-use Rattle.std.proofs.lemmas.List.{get_or-set_same, get_or-set_other}
+use Rattle.std.proofs.lemmas.List.{drop_all, drop_more, get_or-set_same, get_or-set_other}
 use Rattle.std.proofs.lemmas.List.Sorted.{IsPermutation-keeps}
 use Rattle.std.proofs.lemmas.Bool.{cases_eq}
 use Rattle.quantity.specs.Group.{Group}
@@ -46,6 +46,18 @@ module _ {K : Type 0} (𝓖 : Group K) where
     negated = λ xs. sym (map_total 𝓖 𝓖 𝓖.negation (negation_sum 𝓖) xs);
     multiplied = λ c xs. sym (map_total 𝓖 𝓖 (𝓖.multiple c) (multiple_sum 𝓖 c) xs);
   }
+
+  -- a running sum s, at the first term, at the next, and at the last
+  pub total_start : (s whole : K) → s ≡ 𝓖.zero → whole ≡ 𝓖.sum s whole
+  total_start s whole e = sym (ap (λ y. 𝓖.sum y whole) e ∙ 𝓖.neutral whole)
+
+  pub total_next : (xs : List K) (i : ℕ) (whole s s' x : K) → i < length xs → x ≡ get_or xs i x → s' ≡ 𝓖.sum s x → whole ≡ 𝓖.sum s (total 𝓖 (drop i xs)) → whole ≡ 𝓖.sum s' (total 𝓖 (drop (i + 1) xs))
+  total_next xs i whole s s' x within is more e =
+      e ∙ ap (λ l. 𝓖.sum s (total 𝓖 l)) (drop_more xs i x within) ∙ sym (𝓖.associative s (get_or xs i x) _)
+      ∙ ap (λ y. 𝓖.sum y (total 𝓖 (drop (i + 1) xs))) (ap (𝓖.sum s) (sym is) ∙ sym more)
+
+  pub total_end : (xs : List K) (i : ℕ) (whole s : K) → length xs ≤ i → whole ≡ 𝓖.sum s (total 𝓖 (drop i xs)) → s ≡ whole
+  total_end xs i whole s past e = sym (e ∙ ap (λ l. 𝓖.sum s (total 𝓖 l)) (drop_all i xs past) ∙ right 𝓖 s)
 
   -- added up from the front, on top of s
   pub total_folded : (s : K) (xs : List K) → fold 𝓖.sum s xs ≡ 𝓖.sum s (total 𝓖 xs)

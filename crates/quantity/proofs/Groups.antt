@@ -15,6 +15,9 @@ module _ {K : Type 0} (𝓖 : Group K) where
   pub cancel : (x y : K) → sum (negation x) (sum x y) ≡ y
   cancel x y = sym (associative (negation x) x y) ∙ ap (λ z. sum z y) (inverse_left x) ∙ neutral y
 
+  pub cancel' : (x y : K) → sum x (sum (negation x) y) ≡ y
+  cancel' x y = sym (associative x (negation x) y) ∙ ap (λ z. sum z y) (inverse x) ∙ neutral y
+
   -- what is added on one side can be taken away
   pub same_from_sum : (x y z : K) → sum x y ≡ sum x z → y ≡ z
   same_from_sum x y z e = sym (cancel x y) ∙ ap (sum (negation x)) e ∙ cancel x z

@@ -1,6 +1,6 @@
 -- A map that takes sums to sums takes every operation along.
 use Rattle.std.proofs.Common.{◌≡◌, List, [], ◌∷◌, map, ℤ, sym, ap, ◌∙◌}
-use Rattle.quantity.specs.Group.{Group}
+use Rattle.quantity.specs.Group.{Group, minus}
 use Rattle.quantity.specs.Maps.{Respects}
 use Rattle.quantity.specs.Totals.{total}
 use Rattle.quantity.proofs.Groups.{right, same_from_sum, negation_is}
@@ -12,6 +12,9 @@ module _ {K L : Type 0} (𝓖 : Group K) (𝓗 : Group L) (h : K → L) (sums : 
 
   pub map_negation : (x : K) → h (𝓖.negation x) ≡ 𝓗.negation (h x)
   map_negation x = negation_is 𝓗 (h x) _ (sym (sums _ _) ∙ ap h (𝓖.inverse x) ∙ map_zero)
+
+  pub map_minus : (x y : K) → h (minus 𝓖 x y) ≡ minus 𝓗 (h x) (h y)
+  map_minus x y = sums x (𝓖.negation y) ∙ ap (𝓗.sum (h x)) (map_negation y)
 
   pub map_multiple : (c : ℤ) (x : K) → h (𝓖.multiple c x) ≡ 𝓗.multiple c (h x)
   map_multiple c x =

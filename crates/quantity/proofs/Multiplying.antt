@@ -67,6 +67,10 @@ module _ {K : Type 0} (𝓖 : Group K) where
       (ap (λ k. multiple k x) (integers.multiple_none d) ∙ multiple_none x)
       (λ k. ap (λ j. multiple j x) (integers.multiple_more k d) ∙ multiple_by_sum (k *ℤ d) d x) c
 
+  -- one less
+  pub multiple_less : (c : ℤ) (x : K) → multiple (c +ℤ neg_ℤ (pos 1)) x ≡ minus 𝓖 (multiple c x) x
+  multiple_less c x = multiple_by_sum c (neg_ℤ (pos 1)) x ∙ ap (sum (multiple c x)) (multiple_minus_one x)
+
   pub multiples : Multiples 𝓖
   multiples = record {
     only = multiple_is;
