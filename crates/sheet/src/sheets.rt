@@ -1,5 +1,6 @@
 //! A sheet: tables that can only be read.
 ghost use Rattle.std.specs.Prelude.{◌≡◌, length};
+ghost use Rattle.netlist.specs.Netlist.{empty};
 ghost use Rattle.netlist.specs.Sound.{Sound};
 ghost use Rattle.sheet.specs.Views.{laws_in};
 
@@ -31,12 +32,15 @@ impl Sheet {
         Sheet { tables }
     }
 
-    /// Puts other tables in, and answers those that were there, whose memory is used again.
+    /// Puts other tables in, and answers those that were there, emptied: their memory is used again, and what was
+    /// issued is not drawn on.
     pub fn replace(&mut self, tables: Tables) -> Tables
-        ensures answer { result ≡ self.old }
+        ensures answer { result ≡ empty }
         ensures netlist { self.new ≡ tables }
     {
-        std::mem::replace(&mut self.tables, tables)
+        let mut before = std::mem::replace(&mut self.tables, tables);
+        before.clear();
+        before
     }
 
     /// How many nodes there are.

@@ -1,5 +1,6 @@
 -- How long the line of an equation is.
-use Rattle.std.proofs.Common.{◌≡◌, ℕ, ◌+◌, ◌-◌, ◌*◌, ◌^◌, ◌<◌, ◌≤◌, Bool, true, false, cond, List, [], ◌∷◌, ◌++◌, length, ℤ, pos, negsuc, codes, decimal, refl, arith, nat_lt, unsigned_abs}
+use Rattle.std.proofs.Common.{◌≡◌, ℕ, ◌+◌, ◌-◌, ◌*◌, ◌^◌, ◌<◌, ◌≤◌, Bool, true, false, cond, List, [], ◌∷◌, ◌++◌, length, ℤ, pos, negsuc, codes, decimal, refl, arith, nat_lt, eqb, unsigned_abs, zero, suc, ◌/◌, ◌%◌}
+use Rattle.std.specs.Fmt.{digits, digits_onto, digit_glyph}
 use Rattle.std.proofs.lemmas.Fmt.{length-decimal-le}
 use Rattle.std.proofs.lemmas.List.{length-append}
 use Rattle.netlist.specs.declared.terms.Order.{Order}
@@ -63,3 +64,48 @@ pub line_short : (k v : ℕ) (ts : List Term) → AllSmall k ts → length (line
 line_short k v [] s = omega arith
 line_short k v (t ∷ ts) s =
     omega (arith, term_short k v t s.0, rest_short k v ts s.1, length-append (term_text v t ++ rest_text v ts) (codes " = 0\n"), length-append (term_text v t) (rest_text v ts))
+
+-- digits that are put before others leave these there
+some_onto : (k n x : ℕ) (xs : List ℕ) → 0 < length (digits_onto k 10 false n (x ∷ xs))
+some_onto zero n x xs = omega arith
+some_onto (suc k) n x xs =
+    let g = digit_glyph false (n % 10) in
+    elim (eqb (n / 10) 0) as (λ (b : Bool). 0 < length (cond b (g ∷ x ∷ xs) (digits_onto k 10 false (n / 10) (g ∷ x ∷ xs)))) [
+      | true ↦ omega arith
+      | false ↦ some_onto k (n / 10) g (x ∷ xs)
+    ]
+
+some_digit : (n : ℕ) → 0 < length (decimal n)
+unfolding digits
+some_digit n =
+    let g = digit_glyph false (n % 10) in
+    elim (eqb (n / 10) 0) as (λ (b : Bool). 0 < length (cond b (g ∷ []) (digits_onto 63 10 false (n / 10) (g ∷ [])))) [
+      | true ↦ omega arith
+      | false ↦ some_onto 63 (n / 10) g []
+    ]
+
+-- a sign, a digit, a letter and a digit at least
+term_long : (v : ℕ) (t : Term) → 4 ≤ length (term_text v t)
+term_long v t =
+    let q = symbol v t in
+    omega (
+      arith,
+      sign_one t.coefficient,
+      letter_one q,
+      some_digit (unsigned_abs t.coefficient),
+      some_digit (number q),
+      length-append (sign t.coefficient) (decimal (unsigned_abs t.coefficient) ++ (letter q ++ decimal (number q))),
+      length-append (decimal (unsigned_abs t.coefficient)) (letter q ++ decimal (number q)),
+      length-append (letter q) (decimal (number q)),
+    )
+
+rest_long : (v : ℕ) (ts : List Term) → 5 * length ts ≤ length (rest_text v ts)
+rest_long v [] = omega arith
+rest_long v (t ∷ ts) =
+    omega (arith, term_long v t, rest_long v ts, length-append (codes " " ++ term_text v t) (rest_text v ts), length-append (codes " ") (term_text v t))
+
+-- each term takes five bytes at least, with a blank or with what says that the sum is zero
+pub line_long : (v : ℕ) (ts : List Term) → 5 * length ts ≤ length (line_text v ts)
+line_long v [] = omega arith
+line_long v (t ∷ ts) =
+    omega (arith, term_long v t, rest_long v ts, length-append (term_text v t ++ rest_text v ts) (codes " = 0\n"), length-append (term_text v t) (rest_text v ts))

@@ -9,6 +9,9 @@ use crate::sums::put_sum;
 use crate::texts::{Text, print};
 use netlist::terms::Term;
 
+// The fewest bytes that a term takes, with the blank or the end behind it.
+const FEWEST_OF_TERM: usize = 5;
+
 #[derive(Clone, Copy)]
 struct Line<'a> {
     terms: &'a [Term],
@@ -25,7 +28,9 @@ impl Text for Line<'_> {
 }
 
 /// Prints the equation whose terms add up to zero, of a sheet with `variables` variables, and answers
-/// how many bytes that took. A buffer that is too short is left untouched.
+/// how many bytes that took. A buffer that is too short is left untouched, and no more terms are looked at
+/// than it could have room for.
+#[tactic(auto, using(crate::proofs::Lengths::line_long))]
 pub fn write_line(
     terms: &[Term],
     variables: usize,
@@ -34,5 +39,8 @@ pub fn write_line(
     ensures answer { result ≡ answer_text buffer.old (line_text variables terms.now) }
     ensures buffer { buffer.new ≡ printed buffer.old (line_text variables terms.now) }
 {
+    if terms.len() > buffer.len() / FEWEST_OF_TERM {
+        return Err(WriteRefusal::ShortBuffer);
+    }
     print(&Line { terms, variables }, buffer)
 }

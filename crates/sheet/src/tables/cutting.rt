@@ -1,6 +1,7 @@
 //! The steps that take back what came last.
 ghost use Rattle.std.specs.Prelude.{◌≡◌, ◌-◌, length, take};
 ghost use Rattle.std.specs.List.{list_all};
+ghost use Rattle.netlist.specs.Netlist.{empty};
 ghost use Rattle.sheet.specs.Steps.{has_only, no_variable_from, no_node_from, left_variables, left_nodes};
 ghost use Rattle.netlist.specs.Rows.{stands_on};
 
@@ -49,6 +50,16 @@ impl Tables {
         }
         self.domains.truncate(nodes);
         true
+    }
+
+    // Takes back all that is drawn.
+    pub(crate) fn clear(&mut self)
+        ensures { self.new ≡ empty }
+    {
+        self.cut_laws(0);
+        self.cut_rows(0);
+        self.cut_variables(0);
+        self.cut_nodes(0);
     }
 
     // Takes back the last row, if there is one.
