@@ -12,15 +12,14 @@ use sheet::Sheet;
 use walk_test::clear;
 
 // The lowest law that fails.
-#[tactic(auto, using(sheet::proofs::Tiling::law_count_in))]
 pub(crate) fn first_law<K: Quantity>(sheet: &Sheet, readings: Readings<K>) -> Option<usize>
     ensures { let laws = sheet.now.laws in
         let r = given readings.entry in
         MatchOption result (LawsHold K.group laws r (length laws)) (FirstLaw K.group laws r) }
 {
-    sheet
-        .laws()
-        .iter()
+    let laws = sheet.laws();
+    let _count = laws.len();
+    laws.iter()
         .position(|law| !law_sum(law, readings).equals(K::zero()))
 }
 
