@@ -1,2 +1,3 @@
 pub mod Rests
 pub mod Lengths
+pub mod Bytes

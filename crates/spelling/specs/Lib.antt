@@ -4,5 +4,6 @@ pub mod Lines
 pub mod Headers
 pub mod Numbers
 pub mod Rules
+pub mod Puts
 pub mod Sinks
 pub mod Lawful

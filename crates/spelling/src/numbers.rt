@@ -3,7 +3,6 @@ ghost use Rattle.std.specs.Prelude.{◌≡◌};
 ghost use Rattle.spelling.specs.Numbers.{numbers_line, numbers_text};
 ghost use Rattle.spelling.specs.Rules.{answer_text, printed};
 
-use crate::decimals::put_decimal;
 use crate::refusals::WriteRefusal;
 use crate::sinks::Sink;
 use crate::texts::{Text, print};
@@ -20,8 +19,8 @@ fn put_numbers<S: Sink>(sink: &mut S, numbers: &[usize])
     ensures { S.puts sink.old (numbers_text numbers.now) sink.new }
 {
     for number in numbers {
-        sink.put(b" ");
-        put_decimal(sink, *number);
+        sink.put_byte(b' ');
+        sink.put_number(*number);
     }
 }
 

@@ -1,9 +1,11 @@
 //! What a text is given to, piece after piece: a count of its bytes, or a buffer. So each text is spelled
 //! once, and is first measured and then written.
-ghost use Rattle.std.specs.Prelude.{◌≡◌, ℕ, ◌+◌, ◌≤◌, List, [], ◌++◌, length};
+ghost use Rattle.std.specs.Prelude.{◌≡◌, ℕ, ◌+◌, ◌≤◌, List, [], ◌∷◌, ◌++◌, length, decimal};
 ghost use Rattle.spelling.specs.Sinks.{AlwaysRoom, Counted, HasRoom, Written};
 ghost use Rattle.spelling.specs.Lawful.{counted_nothing, counted_both, always_room_first, always_room_second};
 ghost use Rattle.spelling.specs.Lawful.{written_nothing, written_both, has_room_first, has_room_second};
+
+use crate::decimals::{digit_count, put_decimal};
 
 pub(crate) trait Sink {
     // That these bytes go in.
@@ -15,6 +17,16 @@ pub(crate) trait Sink {
     fn put(&mut self, bytes: &[u8])
         requires { has_room self.old bytes.now }
         ensures { puts self.old bytes.now self.new };
+
+    // The same of one byte, which is most of a line.
+    fn put_byte(&mut self, byte: u8)
+        requires { has_room self.old (byte ∷ []) }
+        ensures { puts self.old (byte ∷ []) self.new };
+
+    // The same of a number in decimal.
+    fn put_number(&mut self, number: usize)
+        requires { has_room self.old (decimal number) }
+        ensures { puts self.old (decimal number) self.new };
 
     // Nothing put leaves it as it was.
     ghost puts_nothing: { (s : Self) → has_room s [] → puts s [] s };
@@ -51,6 +63,14 @@ impl Sink for Measure {
     fn put(&mut self, bytes: &[u8]) {
         self.used = self.used.saturating_add(bytes.len());
     }
+
+    fn put_byte(&mut self, _byte: u8) {
+        self.used = self.used.saturating_add(1);
+    }
+
+    fn put_number(&mut self, number: usize) {
+        self.used = self.used.saturating_add(digit_count(number));
+    }
 }
 
 // The place in a lent buffer where the next byte goes.
@@ -77,5 +97,15 @@ impl Sink for Cursor<'_> {
         let end = self.at + bytes.len();
         self.buffer[self.at..end].copy_from_slice(bytes);
         self.at = end;
+    }
+
+    #[tactic(auto, using(crate::proofs::Bytes::written_byte))]
+    fn put_byte(&mut self, byte: u8) {
+        self.buffer[self.at] = byte;
+        self.at += 1;
+    }
+
+    fn put_number(&mut self, number: usize) {
+        self.at = put_decimal(number, self.buffer, self.at);
     }
 }

@@ -12,7 +12,7 @@ fn put_rest<S: Sink>(sink: &mut S, terms: &[Term], variables: usize)
     ensures { S.puts sink.old (rest_text variables terms.now) sink.new }
 {
     for term in terms {
-        sink.put(b" ");
+        sink.put_byte(b' ');
         put_term(sink, *term, variables);
     }
 }

@@ -1,6 +1,6 @@
 //! What a term takes times its coefficient.
 ghost use Rattle.std.specs.Prelude.{◌≡◌};
-ghost use Rattle.spelling.specs.Symbols.{symbol, letter, number};
+ghost use Rattle.spelling.specs.Symbols.{symbol, number};
 
 use netlist::terms::{Order, Term};
 
@@ -28,16 +28,6 @@ impl Symbol {
         match term.order {
             Order::Value => Symbol::Value { variable },
             Order::Rate => Symbol::Rate { variable },
-        }
-    }
-
-    pub(crate) fn letter(self) -> &'static [u8]
-        ensures { result.now ≡ letter self }
-    {
-        match self {
-            Symbol::Value { .. } => b"v",
-            Symbol::Rate { .. } => b"r",
-            Symbol::Potential { .. } => b"p",
         }
     }
 

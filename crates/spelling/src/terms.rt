@@ -1,17 +1,32 @@
 //! One term of an equation.
-ghost use Rattle.std.specs.Prelude.{◌≡◌};
 ghost use Rattle.spelling.specs.Lines.{sign, term_text};
+ghost use Rattle.spelling.specs.Symbols.{letter};
 
-use crate::decimals::put_decimal;
 use crate::sinks::Sink;
 use crate::symbols::Symbol;
 use netlist::terms::Term;
 
 // Every coefficient has a sign; that of 0 is `+`.
-fn sign(coefficient: i32) -> &'static [u8]
-    ensures { result.now ≡ sign coefficient }
+fn put_sign<S: Sink>(sink: &mut S, coefficient: i32)
+    requires { S.has_room sink.old (sign coefficient) }
+    ensures { S.puts sink.old (sign coefficient) sink.new }
 {
-    if coefficient < 0 { b"-" } else { b"+" }
+    if coefficient < 0 {
+        sink.put_byte(b'-');
+    } else {
+        sink.put_byte(b'+');
+    }
+}
+
+fn put_letter<S: Sink>(sink: &mut S, symbol: Symbol)
+    requires { S.has_room sink.old (letter symbol) }
+    ensures { S.puts sink.old (letter symbol) sink.new }
+{
+    match symbol {
+        Symbol::Value { .. } => sink.put_byte(b'v'),
+        Symbol::Rate { .. } => sink.put_byte(b'r'),
+        Symbol::Potential { .. } => sink.put_byte(b'p'),
+    }
 }
 
 pub(crate) fn put_term<S: Sink>(sink: &mut S, term: Term, variables: usize)
@@ -19,8 +34,8 @@ pub(crate) fn put_term<S: Sink>(sink: &mut S, term: Term, variables: usize)
     ensures { S.puts sink.old (term_text variables term) sink.new }
 {
     let symbol = Symbol::of(term, variables);
-    sink.put(sign(term.coefficient));
-    put_decimal(sink, term.coefficient.unsigned_abs() as usize);
-    sink.put(symbol.letter());
-    put_decimal(sink, symbol.number());
+    put_sign(sink, term.coefficient);
+    sink.put_number(term.coefficient.unsigned_abs() as usize);
+    put_letter(sink, symbol);
+    sink.put_number(symbol.number());
 }

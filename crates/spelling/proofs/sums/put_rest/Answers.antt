@@ -9,8 +9,8 @@ loop-term-init g c = record {
   room = c.requires;
 }
 
-pub put-requires : goal.put-requires
-put-requires g c =
+pub put_byte-requires : goal.put_byte-requires
+put_byte-requires g c =
     let room = rw (rest_first c.args.variables c.args.terms.now c.loop-term.term-index c.loop-term-test.true) at c.loop-term.invariant.room in
     g.met.S.Sink.room_first _ (codes " ") _ room
 
@@ -18,14 +18,14 @@ pub put_term-requires : goal.put_term-requires
 put_term-requires g c =
     let text = term_text c.args.variables (get_or c.args.terms.now c.loop-term.term-index nothing) in
     let room = rw (rest_first c.args.variables c.args.terms.now c.loop-term.term-index c.loop-term-test.true) at c.loop-term.invariant.room in
-    g.met.S.Sink.room_first _ text _ (g.met.S.Sink.room_second _ _ (codes " ") _ c.put.ensures room)
+    g.met.S.Sink.room_first _ text _ (g.met.S.Sink.room_second _ _ (codes " ") _ c.put_byte.ensures room)
 
 pub loop-term-preserved : goal.loop-term-preserved
 loop-term-preserved g c =
     let text = term_text c.args.variables (get_or c.args.terms.now c.loop-term.term-index nothing) in
     let room = rw (rest_first c.args.variables c.args.terms.now c.loop-term.term-index c.loop-term-test.true) at c.loop-term.invariant.room in
-    let both = g.met.S.Sink.puts_both _ _ _ (codes " ") text c.put.ensures c.put_term.ensures in
+    let both = g.met.S.Sink.puts_both _ _ _ (codes " ") text c.put_byte.ensures c.put_term.ensures in
     record {
       put = rw (rest_more c.args.variables c.args.terms.now c.loop-term.term-index c.loop-term-test.true) (g.met.S.Sink.puts_both _ _ _ _ (codes " " ++ text) c.loop-term.invariant.put both);
-      room = g.met.S.Sink.room_second _ _ text _ c.put_term.ensures (g.met.S.Sink.room_second _ _ (codes " ") _ c.put.ensures room);
+      room = g.met.S.Sink.room_second _ _ text _ c.put_term.ensures (g.met.S.Sink.room_second _ _ (codes " ") _ c.put_byte.ensures room);
     }
