@@ -2,3 +2,4 @@ mod Every
 mod Filled
 mod SingleLaw
 mod Sound
+mod Kept

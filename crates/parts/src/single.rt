@@ -44,18 +44,29 @@ fn is_counted(term: PlanTerm) -> bool
 fn counted_len(terms: &[PlanTerm]) -> usize
     ensures { result ≡ length (filter is_counted terms.now) }
 {
-    terms.iter().filter(|term| is_counted(**term)).count()
+    let mut n = 0;
+    for x in terms {
+        if is_counted(*x) {
+            n += 1;
+        }
+    }
+    n
 }
 
 // Of the terms that count, the one at place `t`.
 fn nth_counted(terms: &[PlanTerm], t: usize) -> Option<PlanTerm>
     ensures { result ≡ slice_get (filter is_counted terms.now) t }
 {
-    terms
-        .iter()
-        .filter(|term| is_counted(**term))
-        .nth(t)
-        .copied()
+    let mut left = t;
+    for x in terms {
+        if is_counted(*x) {
+            if left == 0 {
+                return Some(*x);
+            }
+            left -= 1;
+        }
+    }
+    None
 }
 
 impl Assembly for Single {
