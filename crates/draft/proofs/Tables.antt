@@ -2,7 +2,7 @@
 use Rattle.std.proofs.Common.{◌≡◌, ℕ, ◌+◌, ◌<◌, true, eqb, List, [], ◌∷◌, map, length, get_or, drop, Some, None, sym, refl, ◌∙◌, arith}
 use Rattle.std.specs.List.{list_all}
 use Rattle.std.proofs.lemmas.List.{at_drop_more}
-use Rattle.std.proofs.lemmas.Bool.{leb-false, lt-ltb, ltb-false, eqb-false, not-false, not_from_false, and_from, or_parts}
+use Rattle.std.proofs.lemmas.Bool.{leb-false, lt-ltb, le-leb, ltb-false, eqb-false, not-false, not_from_false, and_from, or_parts}
 use Rattle.draft.specs.declared.refusals.DraftRefusal.{DraftRefusal}
 use Rattle.draft.specs.declared.refusals.DraftRefusal.TheVariants.{TermCount}
 use Rattle.netlist.specs.declared.rows.Row.{Row}
@@ -15,6 +15,7 @@ use Rattle.netlist.specs.Limits.{no_term_count}
 use Rattle.refusal.specs.Tests.{first_of}
 use Rattle.refusal.proofs.Tables.{passes_line, passes, passed_over, stopped_at, parts}
 use Rattle.netlist.specs.Sound.{joins, names, is_sized, is_term_count}
+use Rattle.sheet.specs.Steps.{have_orders}
 
 -- the row names what is drawn and free
 pub record Fresh (b : Netlist) (row : Row ℕ) : Type 0 where
@@ -72,13 +73,20 @@ all_named n i (t ∷ ts) h =
     let p = parts (table_term n i t) (table_terms n (i + 1) ts) h in
     and_from _ _ (lt-ltb _ _ (leb-false _ _ (passes (table_term n i t) p.0).1.1.0)) (all_named n (i + 1) ts p.1)
 
+all_ordered : (n i : ℕ) (ts : List (RawTerm ℕ)) → first_of (table_terms n i ts) ≡ None → have_orders ts ≡ true
+all_ordered n i [] h = refl
+all_ordered n i (t ∷ ts) h =
+    let p = parts (table_term n i t) (table_terms n (i + 1) ts) h in
+    and_from _ _ (le-leb t.order 1 (ltb-false 1 _ (passes (table_term n i t) p.0).1.0)) (all_ordered n (i + 1) ts p.1)
+
 -- what holds of a law that passes, over variables 0 to n - 1
 pub record Accepted (n : ℕ) (ts : List (RawTerm ℕ)) : Type 0 where
   pub count : is_term_count (length ts) ≡ true
   pub sized : list_all is_sized (map term_of ts) ≡ true
   pub named : list_all (names n) (map term_of ts) ≡ true
+  pub ordered : have_orders ts ≡ true
 
 pub law_accepted : (n : ℕ) (ts : List (RawTerm ℕ)) → first_of (table_law n ts) ≡ None → Accepted n ts
 law_accepted n ts h =
     let p = passes_line (no_term_count (length ts)) TermCount (first_of (table_terms n 1 ts)) h in
-    record { count = not_from_false _ p.0; sized = all_sized n 1 ts p.1; named = all_named n 1 ts p.1 }
+    record { count = not_from_false _ p.0; sized = all_sized n 1 ts p.1; named = all_named n 1 ts p.1; ordered = all_ordered n 1 ts p.1 }

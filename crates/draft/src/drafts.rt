@@ -6,7 +6,7 @@ pub mod calls;
 pub mod counting;
 mod judging;
 
-/// Tables that calls fill, each of which is judged first. A draft moves: it is neither copied nor cloned.
+/// Tables that calls fill, or refuse to fill. A draft moves: it is neither copied nor cloned.
 #[derive(Drop)]
 pub struct Draft {
     tables: Tables,

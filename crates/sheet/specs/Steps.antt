@@ -1,14 +1,14 @@
 -- When a step can be made, what it answers, and the netlist after it.
 use Rattle.std.specs.Prelude.{◌≡◌, ℕ, ◌+◌, Bool, true, cond, not, ◌&&◌, min, ◌==◌, nat_lt, nat_le}
-use Rattle.std.specs.Prelude.{List, [], ◌∷◌, ◌++◌, length, take, Some, None, Option}
+use Rattle.std.specs.Prelude.{List, [], ◌∷◌, ◌++◌, map, length, take, Some, None, Option}
 use Rattle.std.specs.List.{list_all}
 use Rattle.netlist.specs.declared.domains.Domain.{Domain}
 use Rattle.netlist.specs.declared.rows.Row.{Row}
-use Rattle.netlist.specs.declared.rows.Row.TheVariants.{Branch, Earth}
+use Rattle.netlist.specs.declared.terms.RawTerm.{RawTerm}
 use Rattle.netlist.specs.declared.terms.Term.{Term}
 use Rattle.netlist.specs.Domains.{domain_number}
 use Rattle.netlist.specs.Limits.{most_nodes, most_variables, most_rows, most_laws, most_terms}
-use Rattle.netlist.specs.Netlist.{Netlist, term_count, with_nodes}
+use Rattle.netlist.specs.Netlist.{Netlist, term_of, term_count, with_nodes}
 use Rattle.netlist.specs.Rows.{flow_of, across_of, taken_by, stands_on}
 use Rattle.netlist.specs.Sound.{joins, names, is_sized, is_term_count}
 
@@ -52,6 +52,21 @@ law_fits b law = is_lawful b.variables law && has_room b.laws (length law)
 
 abbrev pub with_law : Netlist → List Term → Netlist
 with_law b law = record b { laws = b.laws ++ law ∷ [] }
+
+-- the raw term's order is that of the value or of the rate
+abbrev pub has_order : RawTerm ℕ → Bool
+has_order raw = nat_le raw.order 1
+
+abbrev pub have_orders : List (RawTerm ℕ) → Bool
+have_orders raw = list_all has_order raw
+
+-- each of these raw terms has an order, and the terms for which they stand are a law that fits
+abbrev pub raw_law_fits : Netlist → List (RawTerm ℕ) → Bool
+raw_law_fits b raw = have_orders raw && law_fits b (map term_of raw)
+
+-- the raw term stands for a term that a law over variables 0 to n - 1 may have
+abbrev pub raw_term_fits : ℕ → RawTerm ℕ → Bool
+raw_term_fits n raw = has_order raw && (names n (term_of raw) && is_sized (term_of raw))
 
 -- where one law's terms name only variables below n, so do the other's, for each n
 abbrev pub NamesNoMore : List Term → List Term → Type 0

@@ -11,8 +11,10 @@ use netlist::terms::Term;
 
 mod bounds;
 mod keeping;
+mod raw;
 
 pub(crate) use bounds::keeps_bounds;
+pub(crate) use raw::stand_for_law;
 
 // The laws' terms stand one after another in `terms`, and `spans` says where each law begins and how many
 // terms it has. All memory is reserved once, and a `Vec` for each law would need more at each step. It has no

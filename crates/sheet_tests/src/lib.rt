@@ -5,7 +5,7 @@
 mod tests {
     use netlist::domains::Domain;
     use netlist::rows::Row;
-    use netlist::terms::Term;
+    use netlist::terms::{Order, RawTerm, Term};
     use sheet::{Counts, Sheet, Tables};
     use std::alloc::{AllocError, Global};
     use std::test::Fail;
@@ -105,6 +105,33 @@ mod tests {
         assert_eq!(rt; left.next(), Some(&one[..]));
         assert_eq!(rt; left.next(), Some(&other[..]));
         assert_eq!(rt; left.next(), None);
+        Ok(())
+    }
+
+    // A law as it is written is added as the terms for which it stands, or not at all.
+    #[test]
+    fn laws_as_written(rt: HostRuntime) -> Result<(), Fail> {
+        let mut tables = drawn(rt.alloc())?;
+        let mut law = [RawTerm::value(-1_000_000, 2), RawTerm::rate(1, 0)];
+        let rate = Term {
+            coefficient: 1,
+            order: Order::Rate,
+            variable: 0,
+        };
+        assert_eq!(rt; tables.add_raw_law(&law), Some(0));
+        assert_eq!(rt;
+            tables.laws().law(0),
+            Some(&[Term::value(-1_000_000, 2), rate][..])
+        );
+        assert_eq!(rt; tables.add_raw_law(&law[1..]), Some(1));
+        law[1].order = 2;
+        assert_eq!(rt; tables.add_raw_law(&law), None);
+        assert_eq!(rt; tables.add_raw_law(&[RawTerm::value(1, 3)]), None);
+        assert_eq!(rt; tables.add_raw_law(&[RawTerm::value(1_000_001, 0)]), None);
+        assert_eq!(rt; tables.add_raw_law(&[RawTerm::value(i64::MIN, 0)]), None);
+        assert_eq!(rt; tables.add_raw_law(&[]), None);
+        assert_eq!(rt; tables.add_raw_law(&[RawTerm::value(1, 0); 9]), None);
+        assert_eq!(rt; tables.counts().laws, 2);
         Ok(())
     }
 

@@ -104,8 +104,11 @@ impl Draft {
         ensures netlist { self.new ≡ after_law self.old terms.now }
         ensures kept { OnErr result (self.new ≡ self.old) }
     {
-        let law = self.accept_law(terms)?;
-        Ok(self.tables.add_law(&law[..terms.len()]).unwrap())
+        match self.tables.add_raw_law(terms) {
+            Some(number) => Ok(number),
+            // The tables tell no refusal, so the law is judged for one.
+            None => Err(self.judge_law(terms).unwrap_err()),
+        }
     }
 
     /// Ends the draft. It is never refused.

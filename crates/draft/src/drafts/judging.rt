@@ -1,9 +1,8 @@
-//! What a draft judges before it draws.
+//! What a draft judges: a row before it draws it, and a law that its tables do not take.
 ghost use Rattle.std.specs.Prelude.{◌≡◌};
 ghost use Rattle.netlist.specs.Rows.{taken_by};
-ghost use Rattle.refusal.specs.Answers.{Accepts, Tells};
+ghost use Rattle.refusal.specs.Answers.{Tells};
 ghost use Rattle.refusal.specs.Tests.{first_of};
-ghost use Rattle.draft.specs.Judging.{BeginsWith};
 ghost use Rattle.draft.specs.Rules.{judge_row, judge_law, room_law};
 
 use crate::drafts::Draft;
@@ -12,9 +11,9 @@ use crate::refusals::{DraftRefusal, Table};
 use crate::rows;
 use crate::settings::Setting;
 use netlist::domains::Domain;
-use netlist::limits::{MAX_LAWS, MAX_ROWS, MAX_TERMS, MOST_TERMS};
+use netlist::limits::{MAX_LAWS, MAX_ROWS, MAX_TERMS};
 use netlist::rows::Row;
-use netlist::terms::{RawTerm, Term};
+use netlist::terms::RawTerm;
 
 // Rows are judged on what has been drawn.
 impl Setting for Draft {
@@ -44,14 +43,12 @@ impl Draft {
         Ok(())
     }
 
-    // The terms of a law that finds room, in the first places of an array. An `ArrayVec` would need a
-    // default of a term, which has none.
-    pub(super) fn accept_law(&self, terms: &[RawTerm]) -> Result<[Term; MOST_TERMS], DraftRefusal>
-        ensures { Accepts (judge_law self.now terms.now) (BeginsWith terms.now) result }
+    pub(super) fn judge_law(&self, terms: &[RawTerm]) -> Result<(), DraftRefusal>
+        ensures { Tells (judge_law self.now terms.now) result }
     {
-        let law = accept_terms(self.counts().variables, terms)?;
+        accept_terms(self.counts().variables, terms)?;
         self.judge_law_room(terms.len())?;
-        Ok(law)
+        Ok(())
     }
 
     // Whether a law of so many terms finds room.

@@ -1,8 +1,8 @@
 //! How laws are stored, counted, shown and cut off.
-ghost use Rattle.std.specs.Prelude.{◌≡◌, ◌+◌, ℕ, true, ◌&&◌, [], ◌∷◌, ◌++◌, length, take, nat_lt, nat_le, IfOk};
+ghost use Rattle.std.specs.Prelude.{◌≡◌, ◌+◌, ℕ, true, ◌&&◌, [], ◌∷◌, ◌++◌, map, length, take, nat_lt, nat_le, IfOk};
 ghost use Rattle.std.specs.List.{list_all};
 ghost use Rattle.netlist.specs.Limits.{most_laws, most_terms};
-ghost use Rattle.netlist.specs.Netlist.{term_count};
+ghost use Rattle.netlist.specs.Netlist.{term_of, term_count};
 ghost use Rattle.netlist.specs.Sound.{names, is_sized, is_term_count};
 ghost use Rattle.sheet.specs.Held.{laws_of};
 ghost use Rattle.sheet.specs.Steps.{has_room, NamesNoMore};
@@ -10,10 +10,11 @@ ghost use Rattle.sheet.specs.Views.{laws_in};
 
 use crate::laws::LawTable;
 use crate::laws::bounds::name_drawn;
+use crate::laws::raw::append;
 use crate::views::LawView;
 use netlist::limits::{MAX_LAWS, MAX_TERMS};
 use netlist::spans::Span;
-use netlist::terms::Term;
+use netlist::terms::{RawTerm, Term};
 use std::alloc::{AllocError, Global};
 
 impl LawTable {
@@ -62,6 +63,22 @@ impl LawTable {
             length: law.len(),
         };
         self.terms.extend_from_slice(law).unwrap();
+        self.spans.push_reserved(span);
+    }
+
+    // Stores the law for which raw terms stand, which fits.
+    pub(crate) fn add_raw(&mut self, terms: &[RawTerm])
+        requires room { has_room (laws_of self.old) (length terms.now) ≡ true }
+        requires count { is_term_count (length terms.now) ≡ true }
+        requires sized { list_all is_sized (map term_of terms.now) ≡ true }
+        ensures laws { laws_of self.new ≡ laws_of self.old ++ map term_of terms.now ∷ [] }
+        ensures terms { self.new.terms.items ≡ self.old.terms.items ++ map term_of terms.now }
+    {
+        let span = Span {
+            offset: self.terms.len(),
+            length: terms.len(),
+        };
+        append(&mut self.terms, terms);
         self.spans.push_reserved(span);
     }
 

@@ -1,16 +1,16 @@
 //! The steps that add. Each is made if it fits, and else changes nothing, so who makes it owes nothing.
-ghost use Rattle.std.specs.Prelude.{◌≡◌, [], ◌∷◌, length, IfOk};
-ghost use Rattle.netlist.specs.Netlist.{empty, with_variables, with_rows};
+ghost use Rattle.std.specs.Prelude.{◌≡◌, [], ◌∷◌, map, length, IfOk};
+ghost use Rattle.netlist.specs.Netlist.{empty, term_of, with_variables, with_rows};
 ghost use Rattle.netlist.specs.Sound.{joins};
-ghost use Rattle.sheet.specs.Steps.{node_fits, variables_fit, row_fits, law_fits, is_free, has_free};
+ghost use Rattle.sheet.specs.Steps.{node_fits, variables_fit, row_fits, law_fits, raw_law_fits, is_free, has_free};
 ghost use Rattle.sheet.specs.Steps.{number_if, left_if, with_node, with_law};
 
-use crate::laws::{LawTable, keeps_bounds};
+use crate::laws::{LawTable, keeps_bounds, stand_for_law};
 use crate::tables::Tables;
 use netlist::domains::Domain;
 use netlist::limits::{MAX_NODES, MAX_ROWS, MAX_VARIABLES};
 use netlist::rows::Row;
-use netlist::terms::Term;
+use netlist::terms::{RawTerm, Term};
 use std::alloc::{AllocError, Global};
 
 impl Tables {
@@ -84,6 +84,21 @@ impl Tables {
         Some(number)
     }
 
+    /// Adds the law for which these raw terms stand and answers its number, if each has the order 0 or 1 and the
+    /// law is one that `add_law` adds. Else nothing changes.
+    pub fn add_raw_law(&mut self, terms: &[RawTerm]) -> Option<usize>
+        ensures answer { result ≡ number_if (raw_law_fits self.old terms.now) (length self.old.laws) }
+        ensures netlist { self.new ≡ left_if (raw_law_fits self.old terms.now) self.old
+            (with_law self.old (map term_of terms.now)) }
+    {
+        if !self.fits_raw_law(terms) {
+            return None;
+        }
+        let number = self.laws.count();
+        self.laws.add_raw(terms);
+        Some(number)
+    }
+
     fn fits_row(&self, row: Row) -> bool
         ensures { result ≡ row_fits self.now row }
     {
@@ -126,5 +141,12 @@ impl Tables {
         ensures { result ≡ law_fits self.now terms.now }
     {
         keeps_bounds(terms, self.taken.len()) && self.laws.has_room(terms.len())
+    }
+
+    #[tactic(auto, using(crate::proofs::Fitting::raw_law_tested))]
+    fn fits_raw_law(&self, terms: &[RawTerm]) -> bool
+        ensures { result ≡ raw_law_fits self.now terms.now }
+    {
+        stand_for_law(terms, self.taken.len()) && self.laws.has_room(terms.len())
     }
 }
