@@ -9,7 +9,7 @@ use crate::views::LawView;
 use netlist::rows::Row;
 use std::marker::Model;
 
-/// A sheet moves as tables do. There is no way from a sheet back to drawing but to hand over other tables.
+/// A sheet moves as tables do. There is no way from a sheet back to drawing on what it shows.
 #[derive(Drop)]
 pub struct Sheet {
     tables: Tables,
@@ -41,6 +41,22 @@ impl Sheet {
         let mut before = std::mem::replace(&mut self.tables, tables);
         before.clear();
         before
+    }
+
+    /// Gives the sheet up for its memory, with nothing drawn in it.
+    pub fn into_emptied(self) -> Tables
+        ensures { result ≡ empty }
+    {
+        let Sheet { mut tables } = self;
+        tables.clear();
+        tables
+    }
+
+    /// The tables, to be asked and not drawn on.
+    pub fn tables(&self) -> &Tables
+        ensures { result.now ≡ self.now }
+    {
+        &self.tables
     }
 
     /// How many nodes there are.

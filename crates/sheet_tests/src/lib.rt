@@ -175,4 +175,28 @@ mod tests {
         assert_eq!(rt; sheet.laws().len(), 0);
         Ok(())
     }
+
+    // What was issued comes back whole as a sheet, which is asked all that its tables can be asked, and then gives
+    // up its memory. No call hands it out to be drawn on.
+    #[test]
+    fn a_sheet_is_taken_out_whole(rt: HostRuntime) -> Result<(), Fail> {
+        let mut sheet = Sheet::new(drawn(rt.alloc())?);
+        let issued = std::mem::replace(&mut sheet, Sheet::new(Tables::new(rt.alloc())?));
+        assert_eq!(rt; sheet.nodes(), 0);
+        let counts = Counts {
+            nodes: 2,
+            variables: 3,
+            rows: 1,
+            laws: 0,
+        };
+        assert_eq!(rt; issued.tables().counts(), counts);
+        assert_eq!(rt; issued.tables().domain(1), Some(Domain::Electrical));
+        assert_eq!(rt; issued.tables().domain(2), None);
+        assert_eq!(rt; issued.tables().is_taken(2), Some(false));
+        assert_eq!(rt; issued.rows(), &[BRANCH][..]);
+        let mut spare = issued.into_emptied();
+        assert_eq!(rt; spare.counts().rows, 0);
+        assert_eq!(rt; spare.add_node(Domain::Electrical), Some(0));
+        Ok(())
+    }
 }
